@@ -1,0 +1,41 @@
+-- Bits, numbers and octets. The most significant bit and octet is first, everywhere (document 01, "KASUMI"; document 004, 3.2.3).
+-- A bit string is a function: the bit at each place, counted from 0. Assumes nothing.
+use Prim.Native.Nat.{ℕ, zero, suc, _+_, _-_, _*_, _/_, _%_, _^_}
+use mathlib.Core.Bool.{cond}
+use mathlib.Core.List.{List, [], _∷_, _++_}
+use lib.Dec.{ltb}
+use lib.ListN.{getD}
+
+-- bit i of a number of `width` bits, bit 0 the highest
+unfoldable pub bitAt : ℕ → ℕ → ℕ → ℕ
+bitAt width x i = x / 2 ^ (width - 1 - i) % 2
+
+-- bit i of a list of octets
+unfoldable pub bitOf : List ℕ → ℕ → ℕ
+bitOf octets i = bitAt 8 (getD octets (i / 8) 0) (i % 8)
+
+-- `length` bits of a bit string from bit `start` on; past them every bit is zero
+unfoldable pub part : (ℕ → ℕ) → ℕ → ℕ → ℕ → ℕ
+part bit start length i = cond (ltb i length) (bit (start + i)) 0
+
+-- the number that the first n bits of a bit string write, the first bit highest
+unfoldable pub number : (ℕ → ℕ) → ℕ → ℕ
+number bit zero = 0
+number bit (suc n) = number bit n * 2 + bit n
+
+-- octet k of a bit string
+unfoldable pub octet : (ℕ → ℕ) → ℕ → ℕ
+octet bit k = number (λ j. bit (k * 8 + j)) 8
+
+-- the list f 0, f 1, .. of n elements
+unfoldable pub listed : (ℕ → ℕ) → ℕ → List ℕ
+listed f zero = []
+listed f (suc n) = listed f n ++ (f n ∷ [])
+
+-- how many octets hold n bits
+unfoldable pub size : ℕ → ℕ
+size n = (n + 7) / 8
+
+-- the octets that hold `length` bits of a bit string from bit `start` on, with zero for each spare bit of the last octet
+unfoldable pub stored : (ℕ → ℕ) → ℕ → ℕ → List ℕ
+stored bit start length = listed (octet (part bit start length)) (size length)
