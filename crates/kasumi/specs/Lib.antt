@@ -1,0 +1,4 @@
+pub mod Gates
+pub mod Kasumi
+pub mod Permutation
+pub mod Tables
