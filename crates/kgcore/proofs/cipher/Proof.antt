@@ -1,0 +1,15 @@
+-- `kgcore::cipher` meets its contract: KASUMI refuses no key of 16 octets.
+-- Assumes nothing.
+use borrow.Author.Needs.{needs}
+use Rattle.kasumi.proofs.Determined.{kasumi-done}
+use Rattle.kgcore.proofs.cipher.Statement.{statement}
+use Rattle.kgcore.proofs.cipher.Tie as tie
+
+kasumi-requires : tie.Need-kasumi-requires
+kasumi-requires c κs = search needs
+
+returns : tie.Need-returns
+returns c = kasumi-done _ _ _ _ (c .before .before .pre) (c .kasumi .ensures) .1
+
+pub cipher-spec : {M : Type 1} → statement M
+cipher-spec = tie.close (tie.spec kasumi-requires returns)
