@@ -1,0 +1,48 @@
+-- A5/4 for GSM and for ECSD (document 004, sections 5 and 6): two blocks of keystream for a COUNT. Assumes nothing.
+use Prim.Native.Nat.{ℕ, _/_}
+use mathlib.Core.Path.{_≡_}
+use mathlib.Core.Bool.{not, _||_}
+use mathlib.Core.List.{List, [], _∷_}
+use lib.Dec.{ltb}
+use lib.ListN.{length}
+use Rattle.refusals.specs.Refusal.{Row, first, lent}
+use Rattle.octets.specs.Bits.{size, stored}
+use Rattle.kgcore.specs.declared.Inputs.{Inputs}
+use Rattle.kgcore.specs.Kgcore.{keyBit}
+use Rattle.keystreams.specs.Key.{isKey, prepared}
+use Rattle.keystreams.specs.declared.kinds.Kind.{Kind}
+
+-- the fixed inputs of each kind
+unfoldable pub gsmKind : Kind
+gsmKind = record { ca = 0x0F; cb = 0; ce = 0; cl = 228 }
+
+unfoldable pub ecsdKind : Kind
+ecsdKind = record { ca = 0xF0; cb = 0; ce = 0; cl = 696 }
+
+-- the inputs of KGCORE: COUNT stands in the right 22 bits of CC, and CD is 0
+unfoldable pub a5Inputs : Kind → ℕ → Inputs
+a5Inputs kind count = record { ca = kind .ca; cb = kind .cb; cc = count; cd = 0; ce = kind .ce }
+
+-- how many bits a block has: half of CL, 114 for GSM and 348 for ECSD
+unfoldable pub half : Kind → ℕ
+half kind = kind .cl / 2
+
+-- BLOCK1 is the first half of the bits, BLOCK2 the second
+unfoldable pub block1 : Kind → List ℕ → ℕ → List ℕ
+block1 kind key count = stored (keyBit (prepared key) (a5Inputs kind count)) 0 (half kind)
+
+unfoldable pub block2 : Kind → List ℕ → ℕ → List ℕ
+block2 kind key count = stored (keyBit (prepared key) (a5Inputs kind count)) (half kind) (half kind)
+
+-- the refusals of a call, in their order; no size is asked for, so there is no 3
+unfoldable pub a5Order : Kind → List ℕ → ℕ → List ℕ → List ℕ → List Row
+a5Order kind key count output1 output2 =
+    record { number = 1; holds = not (isKey key) } ∷
+    record { number = 2; holds = ltb 4194303 count } ∷
+    record { number = 4; holds = ltb (length output1) (size (half kind)) || ltb (length output2) (size (half kind)) } ∷ []
+
+-- a call: the refusal, and what the two lent outputs then hold
+pub record A5Call (kind : Kind) (key : List ℕ) (count : ℕ) (before1 before2 : List ℕ) (refusal : ℕ) (after1 after2 : List ℕ) : Type 0 where
+  pub refusal-is : refusal ≡ first (a5Order kind key count before1 before2)
+  pub output1-is : after1 ≡ lent refusal (block1 kind key count) before1
+  pub output2-is : after2 ≡ lent refusal (block2 kind key count) before2

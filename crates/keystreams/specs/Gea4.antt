@@ -1,0 +1,33 @@
+-- GEA4 for GPRS (document 004, section 7): M octets of keystream for an INPUT and a direction. Assumes nothing.
+use Prim.Native.Nat.{ℕ, _*_}
+use mathlib.Core.Path.{_≡_}
+use mathlib.Core.Bool.{not, _||_}
+use mathlib.Core.List.{List, [], _∷_}
+use lib.Dec.{eqb, ltb}
+use lib.ListN.{length}
+use Rattle.refusals.specs.Refusal.{Row, first, lent}
+use Rattle.octets.specs.Bits.{stored}
+use Rattle.kgcore.specs.declared.Inputs.{Inputs}
+use Rattle.kgcore.specs.Kgcore.{keyBit}
+use Rattle.keystreams.specs.Key.{isKey, prepared}
+
+-- the inputs of KGCORE: CA is FF, CC is INPUT, CD the direction; CB and CE are zero
+unfoldable pub gea4Inputs : ℕ → ℕ → Inputs
+gea4Inputs input direction = record { ca = 0xFF; cb = 0; cc = input; cd = direction; ce = 0 }
+
+-- the output: the 8M bits of KGCORE as M octets
+unfoldable pub gea4Output : List ℕ → ℕ → ℕ → ℕ → List ℕ
+gea4Output key input direction m = stored (keyBit (prepared key) (gea4Inputs input direction)) 0 (8 * m)
+
+-- the refusals of a call, in their order
+unfoldable pub gea4Order : List ℕ → ℕ → ℕ → List ℕ → List Row
+gea4Order key direction m output =
+    record { number = 1; holds = not (isKey key) } ∷
+    record { number = 2; holds = ltb 1 direction } ∷
+    record { number = 3; holds = eqb m 0 || ltb 65536 m } ∷
+    record { number = 4; holds = ltb (length output) m } ∷ []
+
+-- a call: the refusal, and what the lent output then holds
+pub record Gea4Call (key : List ℕ) (input direction m : ℕ) (before : List ℕ) (refusal : ℕ) (after : List ℕ) : Type 0 where
+  pub refusal-is : refusal ≡ first (gea4Order key direction m before)
+  pub output-is : after ≡ lent refusal (gea4Output key input direction m) before

@@ -1,0 +1,104 @@
+// The keystreams of document 004: A5/4 for GSM, A5/4 for ECSD and GEA4 for GPRS. Each is KGCORE with the fixed inputs of its kind.
+pub mod kinds;
+
+ghost use mathlib.Core.Path.{_≡_};
+ghost use Prim.Native.Nat.{_<_, _≤_};
+ghost use Rattle.keystreams.specs.A5.{A5Call, gsmKind, ecsdKind};
+ghost use Rattle.keystreams.specs.Gea4.{Gea4Call};
+use kgcore::Inputs;
+use kinds::Ecsd;
+use kinds::Gea4;
+use kinds::Gsm;
+use kinds::Kind;
+
+// A5/4 of a kind: COUNT has 22 bits, and half of the bits go to each block.
+fn a5(kind: Kind, key: &[u8], count: u32, block1: &mut [u8], block2: &mut [u8]) -> u8
+    requires { ⌜ (kind .cb ≤ 31) × ((0 < kind .cl) × (kind .cl ≤ 696)) ⌝ }
+    ensures { λ r. ⌜ A5Call kind (now (key .entry)) count (now (block1 .entry)) (now (block2 .entry)) r (now (block1 .exit)) (now (block2 .exit)) ⌝ }
+{
+    if key.len() != 16 {
+        return refusals::KEY;
+    }
+    if 4194303 < count {
+        return refusals::RANGE;
+    }
+    let half = kind.cl / 2;
+    let size = octets::size(half);
+    if block1.len() < size {
+        return refusals::ROOM;
+    }
+    if block2.len() < size {
+        return refusals::ROOM;
+    }
+    let mut stream = [0u8; 87];
+    kgcore::kgcore(
+        Inputs {
+            ca: kind.ca,
+            cb: kind.cb,
+            cc: count,
+            cd: 0,
+            ce: kind.ce,
+        },
+        key,
+        kind.cl,
+        &mut stream,
+    );
+    octets::cut(&stream, 0, half, block1);
+    octets::cut(&stream, half, half, block2);
+    0
+}
+
+// A5/4 for GSM: two blocks of 114 bits, 15 octets each.
+pub fn gsm(key: &[u8], count: u32, block1: &mut [u8], block2: &mut [u8]) -> u8
+    ensures { λ r. ⌜ A5Call gsmKind (now (key .entry)) count (now (block1 .entry)) (now (block2 .entry)) r (now (block1 .exit)) (now (block2 .exit)) ⌝ }
+{
+    let kind = Kind {
+        ca: Gsm::CA,
+        cb: Gsm::CB,
+        ce: Gsm::CE,
+        cl: Gsm::CL,
+    };
+    a5(kind, key, count, block1, block2)
+}
+
+// A5/4 for ECSD: two blocks of 348 bits, 44 octets each.
+pub fn ecsd(key: &[u8], count: u32, block1: &mut [u8], block2: &mut [u8]) -> u8
+    ensures { λ r. ⌜ A5Call ecsdKind (now (key .entry)) count (now (block1 .entry)) (now (block2 .entry)) r (now (block1 .exit)) (now (block2 .exit)) ⌝ }
+{
+    let kind = Kind {
+        ca: Ecsd::CA,
+        cb: Ecsd::CB,
+        ce: Ecsd::CE,
+        cl: Ecsd::CL,
+    };
+    a5(kind, key, count, block1, block2)
+}
+
+// GEA4: `m` octets for an INPUT and a direction.
+pub fn gea4(key: &[u8], input: u32, direction: u8, m: u32, output: &mut [u8]) -> u8
+    ensures { λ r. ⌜ Gea4Call (now (key .entry)) input direction m (now (output .entry)) r (now (output .exit)) ⌝ }
+{
+    if key.len() != 16 {
+        return refusals::KEY;
+    }
+    if 1 < direction {
+        return refusals::RANGE;
+    }
+    if m == 0 {
+        return refusals::SIZE;
+    }
+    if 65536 < m {
+        return refusals::SIZE;
+    }
+    if output.len() < m as usize {
+        return refusals::ROOM;
+    }
+    let inputs = Inputs {
+        ca: Gea4::CA,
+        cb: Gea4::CB,
+        cc: input,
+        cd: direction,
+        ce: Gea4::CE,
+    };
+    kgcore::kgcore(inputs, key, 8 * m, output)
+}
