@@ -1,0 +1,2 @@
+-- The one statement over the table of marked examples.
+pub mod Agree
