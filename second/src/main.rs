@@ -1,0 +1,75 @@
+//! The independent second program: it makes the expected outputs of the product's programs
+//! from their inputs, out of the documents alone. This file is its command line.
+
+mod bits;
+mod call;
+mod cases;
+mod check;
+mod fast;
+mod gates;
+mod kasumi;
+mod keystreams;
+mod kgcore;
+mod lines;
+mod product;
+mod random;
+mod stream;
+mod vectors;
+
+use std::env;
+use std::io::{self, Read, Write};
+use std::path::Path;
+use std::process::ExitCode;
+
+const USAGE: &str = "\
+second stream          the expected output of `stream` for standard input
+second call            the expected output of `call` for standard input
+second cases stream    a test input for `stream`
+second cases call      a test input for `call`
+second huge stream     an input for `stream` with lines of a megabyte
+second huge call       an input for `call` with lines of a megabyte
+second vectors DIR     a call and its published answer for every set of DIR
+second bench M COUNT   the exclusive or of COUNT outputs of GEA4, M octets each";
+
+fn main() -> ExitCode {
+    let arguments: Vec<String> = env::args().skip(1).collect();
+    let words: Vec<&str> = arguments.iter().map(String::as_str).collect();
+    match output(&words).and_then(|output| print(&output)) {
+        Ok(()) => ExitCode::SUCCESS,
+        Err(message) => {
+            eprintln!("{message}");
+            ExitCode::FAILURE
+        }
+    }
+}
+
+fn output(words: &[&str]) -> Result<Vec<u8>, String> {
+    match *words {
+        ["stream"] => Ok(lines::answers(&input()?, stream::answer).into()),
+        ["call"] => Ok(lines::answers(&input()?, call::answer).into()),
+        ["cases", "stream"] => Ok(cases::stream::input().into()),
+        ["cases", "call"] => Ok(cases::call::input().into()),
+        ["huge", "stream"] => Ok(cases::huge::stream()),
+        ["huge", "call"] => Ok(cases::huge::call()),
+        ["vectors", folder] => Ok(check::report(Path::new(folder))?.into()),
+        ["bench", m, count] => bench(m, count),
+        _ => Err(USAGE.to_string()),
+    }
+}
+
+fn bench(m: &str, count: &str) -> Result<Vec<u8>, String> {
+    let m = m.parse().ok().filter(|m| (1..=65_536).contains(m));
+    let m = m.ok_or("M is a number from 1 to 65536")?;
+    let count = count.parse().map_err(|_| "COUNT is a number of 32 bits")?;
+    Ok(format!("{:02X}\n", fast::bench(m, count)).into())
+}
+
+fn input() -> Result<Vec<u8>, String> {
+    let mut input = Vec::new();
+    io::stdin().read_to_end(&mut input).map_err(|error| error.to_string())?;
+    Ok(input)
+}
+
+fn print(output: &[u8]) -> Result<(), String> {
+    io::stdout().write_all(output).map_err(|error| error.to_string())
+}

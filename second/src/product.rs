@@ -1,0 +1,170 @@
+//! The product's calls: refusals in their order, results at the front of lent octets.
+//! Follows document 01, "KGCORE and the three keystreams" and "Refusal numbers".
+
+use crate::bits::{of_number, of_octets, to_number, to_octets, Bits};
+use crate::kasumi;
+use crate::keystreams::{self, ECSD_BLOCK_BITS, GSM_BLOCK_BITS};
+use crate::kgcore::{self, Inputs};
+
+const KEY: u8 = 1;
+const RANGE: u8 = 2;
+const SIZE: u8 = 3;
+const ROOM: u8 = 4;
+
+/// A success has refusal number 0.
+const NONE: u8 = 0;
+
+const LAST_COUNT: u32 = 4_194_303;
+const LAST_CB: u8 = 31;
+const MOST_BITS: u32 = 524_288;
+const MOST_OCTETS: u32 = 65_536;
+
+/// The numbers handed to KGCORE, in the types of the product's call.
+pub struct Numbers {
+    pub ca: u8,
+    pub cb: u8,
+    pub cc: u32,
+    pub cd: u8,
+    pub ce: u16,
+    pub cl: u32,
+}
+
+pub fn kasumi(key: &[u8], block: u64) -> (u8, u64) {
+    let refusal = first(&[(KEY, bad_key(key))]);
+    if refusal != NONE {
+        return (refusal, 0);
+    }
+    let ciphered = kasumi::kasumi(&of_octets(key), &of_number(block, 64));
+    (NONE, to_number(&ciphered))
+}
+
+pub fn kgcore(key: &[u8], numbers: &Numbers, output: &mut [u8]) -> u8 {
+    let &Numbers { ca, cb, cc, cd, ce, cl } = numbers;
+    let refusal = first(&[
+        (KEY, bad_key(key)),
+        (RANGE, cb > LAST_CB || cd > 1),
+        (SIZE, cl == 0 || cl > MOST_BITS),
+        (ROOM, short(output, cl.into())),
+    ]);
+    if refusal == NONE {
+        let co = kgcore::kgcore(&Inputs {
+            ca: of_number(ca.into(), 8),
+            cb: of_number(cb.into(), 5),
+            cc: of_number(cc.into(), 32),
+            cd: of_number(cd.into(), 1),
+            ce: of_number(ce.into(), 16),
+            ck: of_octets(key),
+            cl: cl as usize,
+        });
+        put(&co, output);
+    }
+    refusal
+}
+
+pub fn gsm(key: &[u8], count: u32, block1: &mut [u8], block2: &mut [u8]) -> u8 {
+    a5(keystreams::gsm, GSM_BLOCK_BITS, key, count, [block1, block2])
+}
+
+pub fn ecsd(key: &[u8], count: u32, block1: &mut [u8], block2: &mut [u8]) -> u8 {
+    a5(keystreams::ecsd, ECSD_BLOCK_BITS, key, count, [block1, block2])
+}
+
+fn a5(
+    keystream: fn(&[bool], &[bool]) -> [Bits; 2],
+    block_bits: usize,
+    key: &[u8],
+    count: u32,
+    lent: [&mut [u8]; 2],
+) -> u8 {
+    let refusal = first(&[
+        (KEY, bad_key(key)),
+        (RANGE, count > LAST_COUNT),
+        (ROOM, lent.iter().any(|buffer| short(buffer, block_bits as u64))),
+    ]);
+    if refusal == NONE {
+        let blocks = keystream(&of_octets(key), &of_number(count.into(), 22));
+        for (block, buffer) in blocks.iter().zip(lent) {
+            put(block, buffer);
+        }
+    }
+    refusal
+}
+
+pub fn gea4(key: &[u8], input: u32, direction: u8, m: u32, output: &mut [u8]) -> u8 {
+    let refusal = first(&[
+        (KEY, bad_key(key)),
+        (RANGE, direction > 1),
+        (SIZE, m == 0 || m > MOST_OCTETS),
+        (ROOM, short(output, 8 * u64::from(m))),
+    ]);
+    if refusal == NONE {
+        let input = of_number(input.into(), 32);
+        let direction = of_number(direction.into(), 1);
+        put(&keystreams::gea4(&of_octets(key), &input, &direction, m as usize), output);
+    }
+    refusal
+}
+
+/// The `length` bits from bit `start` of the source; bits past its end are zero.
+pub fn cut(source: &[u8], start: u32, length: u32, output: &mut [u8]) -> u8 {
+    let refusal = first(&[(ROOM, short(output, length.into()))]);
+    if refusal == NONE {
+        let beyond = std::iter::repeat(false);
+        let bits = of_octets(source).into_iter().skip(start as usize).chain(beyond);
+        put(&bits.take(length as usize).collect::<Bits>(), output);
+    }
+    refusal
+}
+
+/// Of several causes the first in the order of the list is named.
+fn first(causes: &[(u8, bool)]) -> u8 {
+    causes.iter().find(|(_, holds)| *holds).map_or(NONE, |&(number, _)| number)
+}
+
+fn bad_key(key: &[u8]) -> bool {
+    key.len() != 16
+}
+
+/// Whether a lent buffer has too few octets for so many bits.
+fn short(lent: &[u8], bits: u64) -> bool {
+    (lent.len() as u64) < bits.div_ceil(8)
+}
+
+/// Octets of a lent buffer past the result are kept.
+fn put(bits: &[bool], lent: &mut [u8]) {
+    let octets = to_octets(bits);
+    lent[..octets.len()].copy_from_slice(&octets);
+}
+
+#[cfg(test)]
+mod tests {
+    use super::*;
+
+    #[test]
+    fn a_short_second_block_leaves_both_as_they_were() {
+        let (mut block1, mut block2) = ([0xAA; 15], [0xAA; 14]);
+        assert_eq!(gsm(&[0; 16], 0, &mut block1, &mut block2), ROOM);
+        assert_eq!((block1, block2), ([0xAA; 15], [0xAA; 14]));
+    }
+
+    #[test]
+    fn octets_past_the_result_are_kept() {
+        let mut output = [0xAA; 3];
+        assert_eq!(cut(&[0xFF], 4, 9, &mut output), NONE);
+        assert_eq!(output, [0xF0, 0x00, 0xAA]);
+    }
+
+    #[test]
+    fn the_cut_of_any_length_ends() {
+        assert_eq!(cut(&[0xFF], u32::MAX, u32::MAX, &mut [0; 8]), ROOM);
+        assert_eq!(cut(&[0xFF], u32::MAX, 0, &mut []), NONE);
+    }
+
+    #[test]
+    fn a_size_above_the_largest_is_named_before_a_short_output() {
+        let mut output = vec![0; 65_537];
+        assert_eq!(gea4(&[0; 16], 0, 0, 65_537, &mut output), SIZE);
+        assert_eq!(gea4(&[0; 16], 0, 0, 65_537, &mut output[..65_536]), SIZE);
+        assert_eq!(gea4(&[0; 16], 0, 0, 65_536, &mut output[..65_535]), ROOM);
+    }
+}

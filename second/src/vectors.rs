@@ -1,0 +1,155 @@
+//! The published vector files: their sets, and each set as lines of the program `call`.
+//! Follows the form that the folder `vectors` describes: sets of `name = value` lines
+//! between empty lines, `#` before a comment.
+
+use crate::bits::{of_number, of_octets, to_number, Bits};
+use crate::kasumi::kasumi;
+use crate::lines::{based, octets};
+use std::collections::BTreeMap;
+
+pub const KASUMI: &str = include_str!("../../vectors/kasumi.txt");
+pub const A5: &str = include_str!("../../vectors/a5.txt");
+pub const GEA: &str = include_str!("../../vectors/gea.txt");
+
+/// A call, and its answer where a published value gives one.
+pub struct Published {
+    pub call: String,
+    pub answer: Option<String>,
+}
+
+/// The `name = value` lines of one set.
+pub struct Set<'file>(BTreeMap<&'file str, &'file str>);
+
+impl<'file> Set<'file> {
+    pub fn value(&self, name: &str) -> Result<&'file str, String> {
+        self.0.get(name).copied().ok_or_else(|| format!("a set has no {name}: {:?}", self.0))
+    }
+
+    pub fn has(&self, name: &str) -> bool {
+        self.0.contains_key(name)
+    }
+
+    fn decimal(&self, name: &str) -> Result<usize, String> {
+        let value = self.value(name)?;
+        value.parse().map_err(|_| format!("{name} = {value} is not decimal"))
+    }
+
+    /// The digits of the key; a key of 8 octets stands for the same key twice.
+    fn key(&self) -> Result<String, String> {
+        let key = self.value("key")?;
+        Ok(if key.len() == 16 { key.repeat(2) } else { key.to_string() })
+    }
+
+    pub fn key_bits(&self) -> Result<Bits, String> {
+        let key = octets(self.key()?.as_bytes()).filter(|key| key.len() == 16);
+        key.map(|key| of_octets(&key)).ok_or("a key is not 16 octets of hex".to_string())
+    }
+}
+
+/// The sets of a file; a paragraph of comments alone is none.
+pub fn sets(file: &str) -> Result<Vec<Set<'_>>, String> {
+    let mut sets = Vec::new();
+    for paragraph in file.split("\n\n") {
+        let lines = paragraph.lines().filter(|line| !line.is_empty() && !line.starts_with('#'));
+        let values: Result<BTreeMap<_, _>, String> = lines
+            .map(|line| line.split_once(" = ").ok_or(format!("not a name and its value: {line}")))
+            .collect();
+        sets.push(Set(values?));
+    }
+    sets.retain(|set| !set.0.is_empty());
+    Ok(sets)
+}
+
+/// The calls of all sets of a file.
+pub fn calls(file: &str) -> Result<Vec<Published>, String> {
+    let mut calls = Vec::new();
+    for set in sets(file)? {
+        if set.has("co") {
+            calls.push(kgcore(&set)?);
+        } else if set.has("kind") {
+            calls.push(a5(&set)?);
+        } else if set.has("m") {
+            calls.push(gea4(&set)?);
+        } else {
+            calls.extend(chain(&set)?);
+        }
+    }
+    Ok(calls)
+}
+
+fn kgcore(set: &Set) -> Result<Published, String> {
+    let value = |name| set.value(name);
+    let (ca, cb, cc) = (value("ca")?, value("cb")?, value("cc")?);
+    let (cd, ce, co) = (value("cd")?, value("ce")?, value("co")?);
+    let (key, cl, room) = (set.key()?, set.decimal("bits")?, co.len() / 2);
+    Ok(Published {
+        call: format!("kgcore {key} 0x{ca} 0x{cb} 0x{cc} 0x{cd} 0x{ce} {cl} {room}"),
+        answer: Some(format!("0 {co}")),
+    })
+}
+
+fn a5(set: &Set) -> Result<Published, String> {
+    let (name, room) = match set.value("kind")? {
+        "GSM" => ("gsm", 15),
+        "ECSD" => ("ecsd", 44),
+        other => return Err(format!("kind = {other} is neither GSM nor ECSD")),
+    };
+    let (key, count) = (set.key()?, set.value("count")?);
+    let (block1, block2) = (set.value("block1")?, set.value("block2")?);
+    Ok(Published {
+        call: format!("{name} {key} 0x{count} {room} {room}"),
+        answer: Some(format!("0 {block1} {block2}")),
+    })
+}
+
+fn gea4(set: &Set) -> Result<Published, String> {
+    let (key, input, direction) = (set.key()?, set.value("input")?, set.value("direction")?);
+    let (m, output) = (set.decimal("m")?, set.value("output")?);
+    Ok(Published {
+        call: format!("gea4 {key} 0x{input} {direction} {m} {m}"),
+        answer: Some(format!("0 {output}")),
+    })
+}
+
+/// A set of KASUMI, with `times` a chain of calls. Only the answer to the last call is
+/// published; the inputs on the way are this program's own.
+fn chain(set: &Set) -> Result<Vec<Published>, String> {
+    let (key, key_bits, output) = (set.key()?, set.key_bits()?, set.value("output")?);
+    let times = if set.has("times") { set.decimal("times")? } else { 1 };
+    let input = set.value("input")?;
+    let mut block: u64 =
+        based(input.as_bytes(), 16).ok_or(format!("input = {input} is not a block"))?;
+    let mut calls = Vec::new();
+    for time in 1..=times {
+        calls.push(Published {
+            call: format!("kasumi {key} 0x{block:016X}"),
+            answer: (time == times).then(|| format!("0 {output}")),
+        });
+        block = to_number(&kasumi(&key_bits, &of_number(block, 64)));
+    }
+    Ok(calls)
+}
+
+#[cfg(test)]
+mod tests {
+    use super::*;
+
+    #[test]
+    fn comments_and_empty_lines_are_no_sets() {
+        let sets = sets("# head\n\n# one\nkey = 00\n\n\nkey = 01\nm = 2\n").unwrap();
+        let keys: Vec<_> = sets.iter().map(|set| set.value("key").unwrap()).collect();
+        assert_eq!(keys, ["00", "01"]);
+        assert!(super::sets("key 00").is_err());
+    }
+
+    #[test]
+    fn a_short_key_is_doubled_and_a_chain_ends_in_the_published_value() {
+        let gsm = "kind = GSM\nkey = 0123456789ABCDEF\ncount = 01\nblock1 = 11\nblock2 = 22";
+        let published = &calls(gsm).unwrap()[0];
+        assert_eq!(published.call, "gsm 0123456789ABCDEF0123456789ABCDEF 0x01 15 15");
+        assert_eq!(published.answer.as_deref(), Some("0 11 22"));
+
+        let answers = calls(KASUMI).unwrap().into_iter().map(|published| published.answer);
+        assert_eq!(answers.filter(Option::is_none).count(), 49);
+    }
+}
