@@ -1,0 +1,45 @@
+-- Texts that are put at the front of a lent output: octets as hex, the octets that hex writes, and small numbers. Assumes nothing.
+use Prim.Native.Nat.{ℕ, _+_, _*_, _/_, _%_}
+use mathlib.Core.Path.{_≡_}
+use mathlib.Core.Bool.{Bool, cond, _&&_}
+use mathlib.Core.List.{List, [], _∷_, _++_}
+use lib.Dec.{eqb, leb, ltb}
+use lib.ListN.{length, drop}
+use Rattle.lines.specs.Digits.{digitValue, allDigits}
+
+-- what a lent output holds after a text is put at its front: the octets past it are kept
+unfoldable pub front : List ℕ → List ℕ → List ℕ
+front text before = text ++ drop (length text) before
+
+-- putting a text at the front of an output: whether it is allowed and there is room for it, how many octets it has, and what the output then
+-- holds. A text that is not put has no octets, and changes nothing
+pub record PutCall (allowed : Bool) (text before : List ℕ) (ok : Bool) (count : ℕ) (after : List ℕ) : Type 0 where
+  pub ok-is : ok ≡ (allowed && leb (length text) (length before))
+  pub count-is : count ≡ length (cond ok text [])
+  pub output-is : after ≡ front (cond ok text []) before
+
+-- the digit of a number below 16, with capital letters
+unfoldable pub glyphOf : ℕ → ℕ
+glyphOf number = cond (ltb number 10) (48 + number) (55 + number)
+
+-- octets as hex: two digits an octet, the high one first
+unfoldable pub hexText : List ℕ → List ℕ
+hexText [] = []
+hexText (octet ∷ rest) = glyphOf (octet / 16) ∷ glyphOf (octet % 16) ∷ hexText rest
+
+-- the octets that pairs of hex digits write
+unfoldable pub hexOctets : List ℕ → List ℕ
+hexOctets [] = []
+hexOctets (high ∷ []) = []
+hexOctets (high ∷ low ∷ rest) = (digitValue high * 16 + digitValue low) ∷ hexOctets rest
+
+-- pairs of hex digits and nothing else
+unfoldable pub isHex : List ℕ → Bool
+isHex text = eqb (length text % 2) 0 && allDigits 16 text
+
+-- a number below 1,000 in decimal, without leading zeros
+unfoldable pub decimalText : ℕ → List ℕ
+decimalText number =
+    cond (ltb number 10) (glyphOf number ∷ [])
+    (cond (ltb number 100) (glyphOf (number / 10) ∷ glyphOf (number % 10) ∷ [])
+    (glyphOf (number / 100) ∷ glyphOf (number / 10 % 10) ∷ glyphOf (number % 10) ∷ []))

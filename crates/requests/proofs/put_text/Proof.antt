@@ -1,0 +1,126 @@
+-- `requests::put_text` meets its contract: a line not of the form has `?`, a refused request the refusal's number, and any other the hex of its octets.
+-- Assumes nothing.
+use Prim.Native.Nat.{ℕ, _≤_}
+use borrow.Author.Needs.{needs}
+use borrow.Author.Tests.{not-true, not-false}
+use denote.Ref.{now}
+use lib.Seq.{length-take-le}
+use mathlib.Core.Bool.{true}
+use mathlib.Core.List.{List, [], _∷_}
+use mathlib.Core.Path.{_≡_, refl, sym, ap, _∙_}
+use native.Mathlib.Omega.{arith}
+use Rattle.lines.specs.Text.{hexText, decimalText}
+use Rattle.lines.proofs.Text.{length-hexText, length-decimalText}
+use Rattle.requests.specs.declared.form.Request.{Request}
+use Rattle.requests.specs.Answer.{refusalOf, octetsOf}
+use Rattle.requests.proofs.Answers.{read-nothing, read-answer, read-limit, text-refused, text-done, length-octets, answered-stored, answered-put, gea4-front}
+use Rattle.requests.proofs.put_text.Statement.{statement}
+use Rattle.requests.proofs.put_text.Tie as tie
+
+-- where GEA4 has been called: the line, what it asks, and that it asks something
+abbrev at-request : tie.After-gea4 → tie.After-request-of
+at-request c = c .before .before .before .before .before .before
+
+abbrev line : tie.After-gea4 → List ℕ
+line c = now (at-request c .before .before .before .args .line)
+
+abbrev request : tie.After-gea4 → Request
+request c = at-request c .request-of .result
+
+is-request : (c : tie.After-gea4) → request c .ok ≡ true
+is-request c = not-false _ (c .before .before .before .before .if1 .left)
+
+limit : (c : tie.After-gea4) → request c .m ≤ 1520
+limit c = read-limit (line c) (at-request c .request-of .ensures) (is-request c)
+
+refusal-is : (c : tie.After-gea4) → c .gea4 .result ≡ refusalOf (request c)
+unfolding refusalOf
+refusal-is c = c .gea4 .ensures .refusal-is
+
+request-of-requires : tie.Need-request-of-requires
+request-of-requires c κs = search needs
+
+slice-write-output : tie.Need-slice-write-output
+slice-write-output c = search needs
+
+same-length : tie.Need-same-length
+same-length c = search needs
+
+returns : tie.Need-returns
+returns c =
+    let at-request = c .before .before in
+    rw (read-nothing _ (at-request .request-of .ensures) (not-true _ (c .if1 .taken)))
+    (answered-stored (63 ∷ []) _ 1 refl (omega arith))
+
+slice-aggregate-gea4 : tie.Need-slice-aggregate-gea4
+slice-aggregate-gea4 c = search needs
+
+slice-aggregate-gea4-2 : tie.Need-slice-aggregate-gea4-2
+slice-aggregate-gea4-2 c = search needs
+
+gea4-requires : tie.Need-gea4-requires
+gea4-requires c κs = search needs
+
+decimal-of-octet-requires : tie.Need-decimal-of-octet-requires
+decimal-of-octet-requires c κs = search needs
+
+same-length-2 : tie.Need-same-length-2
+same-length-2 c = search needs
+
+returns-2 : tie.Need-returns-2
+returns-2 c =
+    let at-refused = c .before .before .before .before in
+    let at-gea4 = at-refused .before .before in
+    let refusal : ℕ = at-gea4 .gea4 .result in
+    answered-put (c .before .before .decimal-of-octet .ensures) (omega (arith, length-decimalText refusal))
+    (ap decimalText (refusal-is at-gea4)
+    ∙ sym (text-refused (request at-gea4) (λ none. at-refused .if2 .taken (refusal-is at-gea4 ∙ none)))
+    ∙ sym (read-answer (line at-gea4) (at-request at-gea4 .request-of .ensures) (is-request at-gea4)))
+
+cast-size : tie.Need-cast-size
+cast-size c = search needs
+
+array-share-prefix-octets : tie.Need-array-share-prefix-octets
+array-share-prefix-octets c = omega (arith, c .before .before .before .gea4 .kept, limit (c .before .before .before))
+
+slice-aggregate-hex-of-octets : tie.Need-slice-aggregate-hex-of-octets
+slice-aggregate-hex-of-octets c = sym (length-take-le _ _ (omega (arith, c .before .before .before .before .gea4 .kept, limit (c .before .before .before .before))))
+
+hex-of-octets-requires : tie.Need-hex-of-octets-requires
+hex-of-octets-requires c κs = search needs
+
+same-length-3 : tie.Need-same-length-3
+same-length-3 c = search needs
+
+returns-3 : tie.Need-returns-3
+unfolding octetsOf
+returns-3 c =
+    let at-done = c .before .before .before .before .before .before in
+    let at-gea4 = at-done .before .before in
+    let octets-are = gea4-front (at-gea4 .gea4 .ensures) (at-done .if2 .left) in
+    answered-put (c .before .before .hex-of-octets .ensures)
+    (rw (octets-are, length-hexText (octetsOf (request at-gea4)), length-octets (request at-gea4)) (omega (arith, limit at-gea4)))
+    (ap hexText octets-are
+    ∙ sym (text-done (request at-gea4) (sym (refusal-is at-gea4) ∙ at-done .if2 .left))
+    ∙ sym (read-answer (line at-gea4) (at-request at-gea4 .request-of .ensures) (is-request at-gea4)))
+
+pub put-text-spec : {M : Type 1} → statement M
+put-text-spec =
+    tie.close
+    (tie.spec
+    request-of-requires
+    slice-write-output
+    same-length
+    returns
+    slice-aggregate-gea4
+    slice-aggregate-gea4-2
+    gea4-requires
+    decimal-of-octet-requires
+    same-length-2
+    returns-2
+    cast-size
+    array-share-prefix-octets
+    slice-aggregate-hex-of-octets
+    hex-of-octets-requires
+    same-length-3
+    returns-3)

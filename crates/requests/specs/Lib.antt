@@ -1,0 +1,4 @@
+pub mod Answer
+pub mod Form
+pub mod Hearing
+pub mod Stream

@@ -1,0 +1,147 @@
+// What a line of `stream` asks and what is answered, and the hearing of lines octet by octet.
+mod form;
+
+ghost use mathlib.Core.Path.{_≡_};
+ghost use Prim.Native.Nat.{_≤_};
+ghost use lib.ListN.{length};
+ghost use Rattle.requests.specs.Answer.{answerText, answer as Answer·answer, largestAnswer, Answered};
+ghost use Rattle.requests.specs.Hearing.{silence, kept as Hearing·kept, heardAnswer, HearCall, FinishCall};
+
+// What ends a line.
+const LINE_FEED: u8 = b'\n';
+
+// The answer to a line not of the form.
+const BAD: u8 = b'?';
+
+// The most octets of a line of the form.
+const LONGEST: usize = 48;
+
+// Room for every answer: 1,520 pairs of digits and the line feed.
+const ROOM: usize = 3041;
+
+// The line so far. A count above 48 means that the line is too long, which is one bad line however long it is.
+pub struct Heard {
+    pub octets: [u8; 48],
+    pub count: usize,
+}
+
+// The state after an octet, and how many octets its answer has at the front of the output.
+pub struct Told {
+    pub heard: Heard,
+    pub written: usize,
+}
+
+// Puts the text that answers a line, without its line end.
+fn put_text(line: &[u8], output: &mut [u8]) -> usize
+    requires { ⌜ largestAnswer ≤ length (now output) ⌝ }
+    ensures { λ r. ⌜ Answered (answerText (now (line .entry))) (now (output .entry)) r (now (output .exit)) ⌝ }
+{
+    let request = form::request_of(line);
+    if !request.ok {
+        output[0] = BAD;
+        return 1;
+    }
+    let key = request.key;
+    let mut octets = [0u8; 1520];
+    let refusal = keystreams::gea4(
+        &key,
+        request.input,
+        request.direction,
+        request.m,
+        &mut octets,
+    );
+    if refusal != 0 {
+        return lines::decimal_of_octet(refusal, output).count;
+    }
+    let size = request.m as usize;
+    lines::hex_of_octets(&octets[..size], output).count
+}
+
+// Puts the answer to a line.
+fn put_answer(line: &[u8], output: &mut [u8]) -> usize
+    requires { ⌜ largestAnswer ≤ length (now output) ⌝ }
+    ensures { λ r. ⌜ Answered (Answer·answer (now (line .entry))) (now (output .entry)) r (now (output .exit)) ⌝ }
+{
+    let size = put_text(line, output);
+    output[size] = LINE_FEED;
+    size + 1
+}
+
+// Puts the answer to the line heard.
+fn put_heard(heard: Heard, output: &mut [u8]) -> usize
+    requires { ⌜ largestAnswer ≤ length (now output) ⌝ }
+    ensures { λ r. ⌜ Answered (heardAnswer heard) (now (output .entry)) r (now (output .exit)) ⌝ }
+{
+    let octets = heard.octets;
+    let count = heard.count;
+    if LONGEST < count {
+        output[0] = BAD;
+        output[1] = LINE_FEED;
+        return 2;
+    }
+    put_answer(&octets[..count], output)
+}
+
+// The line with one octet more.
+fn kept(heard: Heard, octet: u8) -> Heard
+    ensures { λ r. ⌜ r ≡ Hearing·kept heard octet ⌝ }
+{
+    let mut octets = heard.octets;
+    let count = heard.count;
+    if count < LONGEST {
+        octets[count] = octet;
+        return Heard {
+            octets,
+            count: count + 1,
+        };
+    }
+    Heard {
+        octets,
+        count: LONGEST + 1,
+    }
+}
+
+// Nothing heard yet.
+pub fn start() -> Heard
+    ensures { λ r. ⌜ r ≡ silence ⌝ }
+{
+    Heard {
+        octets: [0; 48],
+        count: 0,
+    }
+}
+
+// Hears one octet: a line feed has the line answered and begins a new one, any other octet is kept.
+pub fn hear(heard: Heard, octet: u8, output: &mut [u8]) -> Told
+    ensures { λ r. ⌜ HearCall heard octet (now (output .entry)) r (now (output .exit)) ⌝ }
+{
+    if output.len() < ROOM {
+        return Told { heard, written: 0 };
+    }
+    if octet == LINE_FEED {
+        let written = put_heard(heard, output);
+        let fresh = start();
+        return Told {
+            heard: fresh,
+            written,
+        };
+    }
+    let longer = kept(heard, octet);
+    Told {
+        heard: longer,
+        written: 0,
+    }
+}
+
+// The input ends: answers a last line that has no line end, and answers how many octets that has.
+pub fn finish(heard: Heard, output: &mut [u8]) -> usize
+    ensures { λ r. ⌜ FinishCall heard (now (output .entry)) r (now (output .exit)) ⌝ }
+{
+    if output.len() < ROOM {
+        return 0;
+    }
+    if heard.count == 0 {
+        return 0;
+    }
+    put_heard(heard, output)
+}
