@@ -1,0 +1,56 @@
+-- `benchmark::answer` is safe: M octets lie within the space.
+-- Assumes nothing.
+use borrow.Author.Needs.{needs}
+use native.Mathlib.Omega.{arith}
+use Rattle.io.proofs.Counting.{front}
+use Rattle.benchmark.proofs.answer.Statement.{statement}
+use Rattle.benchmark.proofs.answer.Tie as tie
+
+number-before-requires : tie.Need-number-before-requires
+number-before-requires c κs = search needs
+
+after-requires : tie.Need-after-requires
+after-requires c κs = search needs
+
+number-before-requires-2 : tie.Need-number-before-requires-2
+number-before-requires-2 c κs = search needs
+
+cast-count : tie.Need-cast-count
+cast-count c = search needs
+
+space-requires : tie.Need-space-requires
+space-requires c κs = search needs
+
+array-borrow-prefix-output : tie.Need-array-borrow-prefix-output
+array-borrow-prefix-output c = search needs
+
+slice-aggregate-many : tie.Need-slice-aggregate-many
+slice-aggregate-many c = front _ _ (omega arith)
+
+cast-many : tie.Need-cast-many
+cast-many c = search needs
+
+many-requires : tie.Need-many-requires
+many-requires c κs = search needs
+
+told-requires : tie.Need-told-requires
+told-requires c κs = search needs
+
+returns : tie.Need-returns
+returns c = search needs
+
+pub answer-spec : {M : Type 1} → statement M
+answer-spec =
+    tie.close
+    (tie.spec
+    number-before-requires
+    after-requires
+    number-before-requires-2
+    cast-count
+    space-requires
+    array-borrow-prefix-output
+    slice-aggregate-many
+    cast-many
+    many-requires
+    told-requires
+    returns)
