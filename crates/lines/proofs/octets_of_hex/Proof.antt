@@ -1,8 +1,8 @@
-use native.Mathlib.Omega.{arith}
 -- `lines::octets_of_hex` meets its contract. The loop's invariant: the octets of the first k pairs stand at the front of the output, and the rest
 -- is as it was. The measure is how many pairs are left.
 -- Assumes nothing.
 use Prim.Native.Nat.{ℕ, _+_, _-_, _*_, _%_, _≤_, _<_}
+use native.Mathlib.Omega.{arith}
 use borrow.Author.Needs.{needs}
 use borrow.Author.Tests.{not-true, not-false, eq-eqb, ne-eqb, lt-leb}
 use denote.Ref.{now}
