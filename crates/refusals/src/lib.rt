@@ -11,3 +11,27 @@ pub const SIZE: u8 = 3;
 
 // A lent output is shorter than the result.
 pub const ROOM: u8 = 4;
+
+// A frame is under 7 octets, its L is outside 5 to 1,524, or it is not L + 2 octets.
+pub const LENGTH: u8 = 5;
+
+// A frame's version is not 1.
+pub const VERSION: u8 = 6;
+
+// A zero bit of a frame's octets 3 to 5 is set.
+pub const SPARE: u8 = 7;
+
+// A frame's SAPI or direction is not the link's.
+pub const OTHER: u8 = 8;
+
+// The candidate is below 0.
+pub const START: u8 = 9;
+
+// The sender's next number is 2^27, or the candidate is 2^27 or more.
+pub const END: u8 = 10;
+
+// The candidate was accepted already.
+pub const REPEAT: u8 = 11;
+
+// A state that cannot arise.
+pub const STATE: u8 = 12;
