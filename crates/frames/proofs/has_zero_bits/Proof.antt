@@ -1,0 +1,19 @@
+-- `frames::has_zero_bits` meets its contract: its tests are the definition's.
+-- Assumes nothing.
+use borrow.Author.Needs.{needs}
+use Rattle.frames.specs.Frame.{hasZeroBits}
+use Rattle.frames.proofs.has_zero_bits.Statement.{statement}
+use Rattle.frames.proofs.has_zero_bits.Tie as tie
+
+octet-requires : tie.Need-octet-requires
+octet-requires c κs = search needs
+
+octet-requires-2 : tie.Need-octet-requires-2
+octet-requires-2 c κs = search needs
+
+returns : tie.Need-returns
+unfolding hasZeroBits
+returns c = cc
+
+pub has-zero-bits-spec : {M : Type 1} → statement M
+has-zero-bits-spec = tie.close (tie.spec octet-requires octet-requires-2 returns)

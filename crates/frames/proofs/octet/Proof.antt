@@ -1,0 +1,20 @@
+-- `frames::octet` meets its contract: past the end of the frame the octet reads as 0.
+-- Assumes nothing.
+use borrow.Author.Needs.{needs}
+use mathlib.Core.Path.{sym}
+use denote.Ref.{now}
+use lib.ListN.{List·getD-eq-default}
+use Rattle.frames.proofs.octet.Statement.{statement}
+use Rattle.frames.proofs.octet.Tie as tie
+
+shared-slice-read-result : tie.Need-shared-slice-read-result
+shared-slice-read-result c = search needs
+
+returns : tie.Need-returns
+returns c = search needs
+
+returns-2 : tie.Need-returns-2
+returns-2 c = sym (List·getD-eq-default (now (c .before .args .frame)) 0 (c .if1 .left))
+
+pub octet-spec : {M : Type 1} → statement M
+octet-spec = tie.close (tie.spec shared-slice-read-result returns returns-2)
