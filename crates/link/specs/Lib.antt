@@ -1,0 +1,4 @@
+pub mod Input
+pub mod Link
+pub mod Open
+pub mod Seal
