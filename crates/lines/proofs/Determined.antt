@@ -7,6 +7,8 @@ use mathlib.Core.List.{List, []}
 use borrow.Author.Tests.{le-leb}
 use lib.Dec.{leb}
 use lib.ListN.{length}
+use Rattle.lines.specs.declared.Heard.{Heard}
+use Rattle.lines.specs.Hearing.{silence, tooLong, kept}
 use Rattle.lines.specs.Digits.{numberOf, isNumber, NumberCall}
 use Rattle.lines.specs.Text.{front, PutCall}
 use Rattle.lines.proofs.Digits.{and-left, and-both}
@@ -24,7 +26,7 @@ pub number-read : {base most : ℕ} {text : List ℕ} {ok : Bool} {value : ℕ}
 number-read {base} {text = text} call done =
     (sym (call .ok-is) ∙ done, call .value-is ∙ ap (λ (b : Bool). cond b (numberOf base text) 0) done)
 
--- `octets_of_hex`, `hex_of_octets` and `decimal_of_octet`
+-- `octets_of_hex`, `hex_of_octets`, `decimal_of_number` and `put_text`
 pub put-determined : {allowed : Bool} {text before : List ℕ} {ok ok′ : Bool} {count count′ : ℕ} {after after′ : List ℕ}
     → PutCall allowed text before ok count after → PutCall allowed text before ok′ count′ after′
     → (ok ≡ ok′) × (count ≡ count′) × (after ≡ after′)
@@ -48,3 +50,15 @@ put-read {allowed} {text} {before} call done = (
 pub put-fits : {allowed : Bool} {text before : List ℕ} {ok : Bool} {count : ℕ} {after : List ℕ}
     → PutCall allowed text before ok count after → allowed ≡ true → length text ≤ length before → ok ≡ true
 put-fits {allowed} {text} {before} call right room = call .ok-is ∙ and-both allowed _ right (le-leb (length text) (length before) room)
+
+-- `silence`
+pub silence-determined : {heard heard′ : Heard} → heard ≡ silence → heard′ ≡ silence → heard ≡ heard′
+silence-determined one other = one ∙ sym other
+
+-- `too_long`
+pub too-long-determined : {line line′ : List ℕ} → line ≡ tooLong → line′ ≡ tooLong → line ≡ line′
+too-long-determined one other = one ∙ sym other
+
+-- `kept`
+pub kept-determined : (heard : Heard) (octet : ℕ) {longer longer′ : Heard} → longer ≡ kept heard octet → longer′ ≡ kept heard octet → longer ≡ longer′
+kept-determined heard octet one other = one ∙ sym other

@@ -8,12 +8,12 @@ use mathlib.Core.Path.{_≡_, refl, sym, ap, ap₂, _∙_}
 use mathlib.Core.List.{List, [], _∷_, _++_, append-assoc, append-nil}
 use mathlib.Core.Bool.{Bool, true, false, cond, _&&_}
 use borrow.Author.Tests.{le-leb, lt-leb, eq-eqb}
-use lib.Dec.{eqb, leb, ltb, lit≤}
+use lib.Dec.{eqb, leb}
 use lib.ListN.{length, getD, take, drop, set, length-append, length-drop, drop-of-length-le}
 use lib.Seq.{sets, sets-eq, append-snoc, drop-cons, set-at, length-take-le, take-suc, take-length, take-append-seam}
 use Rattle.lines.specs.Digits.{digitValue, allDigits}
 use Rattle.lines.proofs.Digits.{and-right}
-use Rattle.lines.specs.Text.{front, PutCall, glyphOf, hexText, hexOctets, isHex, decimalText}
+use Rattle.lines.specs.Text.{front, PutCall, glyphOf, hexText, hexOctets, isHex}
 
 -- ---- the front of an output
 
@@ -71,6 +71,20 @@ put-done text before after count = put-allowed true text before after count refl
 
 pub put-no-room : (text before : List ℕ) (count : ℕ) → length text ≡ count → length before < count → PutCall true text before false 0 before
 put-no-room text before count long short = put-nothing true text before (lt-leb (length text) (length before) (omega arith))
+
+-- ---- a text octet by octet
+
+-- a turn of the loop puts one octet more
+pub text-turn : (text before : List ℕ) (k : ℕ) → k < length text → k < length before
+    → set (take k text ++ drop k before) k (getD text k 0) ≡ take (k + 1) text ++ drop (k + 1) before
+text-turn text before k inside room =
+    front-store (take k text) before k (getD text k 0) (length-take-le k text (omega arith)) room
+    ∙ rw (add-one k) (ap (λ (l : List ℕ). l ++ drop (suc k) before) (sym (take-suc text k 0 inside)))
+
+-- after the last turn all of it is put
+pub text-put : (text before : List ℕ) (k : ℕ) → k ≡ length text → take k text ++ drop k before ≡ front text before
+unfolding front
+text-put text before k end = ap (λ (n : ℕ). take n text ++ drop n before) end ∙ ap (λ (l : List ℕ). l ++ drop (length text) before) (take-length text)
 
 -- ---- octets as hex
 
@@ -179,8 +193,3 @@ hex-digits text e = and-right (eqb (length text % 2) 0) (allDigits 16 text) e
 pub length-either : (test : Bool) (a b : List ℕ) (n : ℕ) → length a ≤ n → length b ≤ n → length (cond test a b) ≤ n
 length-either true a b n p q = p
 length-either false a b n p q = q
-
--- decimal text has at most three digits
-pub length-decimalText : (number : ℕ) → length (decimalText number) ≤ 3
-unfolding decimalText
-length-decimalText number = length-either (ltb number 10) _ _ 3 (lit≤ tt) (length-either (ltb number 100) _ _ 3 (lit≤ tt) (lit≤ tt))

@@ -1,2 +1,4 @@
 pub mod Digits
+pub mod Hearing
+pub mod Lines
 pub mod Text

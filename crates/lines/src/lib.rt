@@ -1,9 +1,14 @@
-// Text that the programs read and write: digits, numbers, and octets as hex.
+// Text that the programs read and write: digits, numbers, octets as hex, and lines that are heard octet by octet.
 ghost use mathlib.Core.Path.{_≡_};
 ghost use Prim.Native.Nat.{_^_, _<_, _≤_};
 ghost use mathlib.Core.Bool.{true};
 ghost use Rattle.lines.specs.Digits.{digitValue, allDigits, NumberCall};
-ghost use Rattle.lines.specs.Text.{PutCall, isHex, hexOctets, hexText, glyphOf, decimalText};
+ghost use Rattle.lines.specs.Text.{PutCall, Answered, isHex, hexOctets, hexText, glyphOf, decimalText};
+ghost use Rattle.lines.specs.Hearing.{silence as Hearing·silence, kept as Hearing·kept, tooLong};
+ghost use lib.ListN.{length};
+
+// The most octets of a line that is kept whole.
+pub const LONGEST: usize = 48;
 
 // Whether a text is a number, and its value, which is 0 where it is none.
 pub struct Number {
@@ -142,34 +147,100 @@ pub fn hex_of_octets(octets: &[u8], output: &mut [u8]) -> Put
     Put { ok: true, count }
 }
 
+// How many digits a number has in decimal.
+fn digits_of(number: u32) -> usize
+    ensures { λ r. ⌜ r ≡ length (decimalText number) ⌝ }
+{
+    if number < 10 {
+        return 1;
+    }
+    digits_of(number / 10) + 1
+}
+
+// Puts the digits of a number, the highest first.
+fn put_digits(number: u32, output: &mut [u8]) -> usize
+    requires { ⌜ length (decimalText number) ≤ length (now output) ⌝ }
+    ensures { λ r. ⌜ Answered (decimalText number) (now (output .entry)) r (now (output .exit)) ⌝ }
+{
+    let last = glyph((number % 10) as u8);
+    if 9 < number {
+        let count = put_digits(number / 10, output);
+        output[count] = last;
+        return count + 1;
+    }
+    output[0] = last;
+    1
+}
+
 // Puts a number in decimal at the front of the output, without leading zeros.
-pub fn decimal_of_octet(number: u8, output: &mut [u8]) -> Put
+pub fn decimal_of_number(number: u32, output: &mut [u8]) -> Put
     ensures { λ r. ⌜ PutCall true (decimalText number) (now (output .entry)) (r .ok) (r .count) (now (output .exit)) ⌝ }
 {
-    let nothing = Put {
-        ok: false,
-        count: 0,
-    };
-    if number < 10 {
-        if output.len() < 1 {
-            return nothing;
-        }
-        output[0] = glyph(number);
-        return Put { ok: true, count: 1 };
+    if output.len() < digits_of(number) {
+        return Put {
+            ok: false,
+            count: 0,
+        };
     }
-    if number < 100 {
-        if output.len() < 2 {
-            return nothing;
-        }
-        output[0] = glyph(number / 10);
-        output[1] = glyph(number % 10);
-        return Put { ok: true, count: 2 };
+    let count = put_digits(number, output);
+    Put { ok: true, count }
+}
+
+// Puts a text at the front of the output.
+pub fn put_text(text: &[u8], output: &mut [u8]) -> Put
+    ensures { λ r. ⌜ PutCall true (now (text .entry)) (now (output .entry)) (r .ok) (r .count) (now (output .exit)) ⌝ }
+{
+    let count = text.len();
+    if output.len() < count {
+        return Put {
+            ok: false,
+            count: 0,
+        };
     }
-    if output.len() < 3 {
-        return nothing;
+    let mut k = 0;
+    while k < count {
+        output[k] = text[k];
+        k += 1;
     }
-    output[0] = glyph(number / 100);
-    output[1] = glyph(number / 10 % 10);
-    output[2] = glyph(number % 10);
-    Put { ok: true, count: 3 }
+    Put { ok: true, count }
+}
+
+// The line so far. A count above 48 means that the line is too long, which is one line like any other that is too long.
+pub struct Heard {
+    pub octets: [u8; 48],
+    pub count: usize,
+}
+
+// Nothing heard yet.
+pub fn silence() -> Heard
+    ensures { λ r. ⌜ r ≡ Hearing·silence ⌝ }
+{
+    let octets = [0; 48];
+    Heard { octets, count: 0 }
+}
+
+// The line that stands for every line that is too long.
+pub fn too_long() -> [u8; 49]
+    ensures { λ r. ⌜ r ≡ tooLong ⌝ }
+{
+    [0; 49]
+}
+
+// The line with one octet more.
+pub fn kept(heard: Heard, octet: u8) -> Heard
+    ensures { λ r. ⌜ r ≡ Hearing·kept heard octet ⌝ }
+{
+    let mut octets = heard.octets;
+    let count = heard.count;
+    if count < LONGEST {
+        octets[count] = octet;
+        return Heard {
+            octets,
+            count: count + 1,
+        };
+    }
+    Heard {
+        octets,
+        count: LONGEST + 1,
+    }
 }

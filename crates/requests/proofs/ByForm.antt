@@ -9,7 +9,7 @@ use borrow.Author.Tests.{eq-eqb, le-ltb}
 use lib.ListN.{length, length-replicate}
 use Rattle.refusals.specs.Refusal.{first}
 use Rattle.lines.specs.Digits.{numberOf}
-use Rattle.lines.specs.Text.{glyphOf, hexText, decimalText, hexOctets}
+use Rattle.lines.specs.Text.{glyphOf, hexText, decimalDigits, decimalText, hexOctets}
 use Rattle.keystreams.specs.Key.{isKey}
 use Rattle.keystreams.specs.Gea4.{gea4Output, gea4Order}
 use Rattle.keystreams.proofs.Laws.{gea4-done}
@@ -47,7 +47,7 @@ module _ {line m key input : List ℕ} {direction : ℕ} (form : RequestLine lin
   refused-three none = rw (eq-eqb (length (asked line .key)) 16 sixteen, le-ltb 1 (asked line .direction) way, m-is ∙ none)
 
   pub zero-octets : numberOf 10 m ≡ 0 → answer line ≡ 51 ∷ 10 ∷ []
-  unfolding ended decimalText glyphOf
+  unfolding ended decimalText decimalDigits glyphOf
   zero-octets none =
       let three : refusalOf (asked line) ≡ 3 = refused-three none in
       answer-form ∙ ap ended (text-refused (asked line) (λ zero. omega (arith, three)) ∙ ap decimalText three)

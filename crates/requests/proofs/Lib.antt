@@ -1,8 +1,7 @@
--- The laws of the form of a line, of the answers, of the lines of an input and of a run of the calls, and what the contracts determine.
+-- The laws of the form of a line, of the answers and of a run of the calls, and what the contracts determine.
 pub mod Accepted
 pub mod Answers
 pub mod ByForm
 pub mod Determined
-pub mod Lines
 pub mod Parts
 pub mod Run

@@ -2,27 +2,17 @@
 -- Assumes nothing.
 use Prim.Native.Nat.{ℕ, zero, suc, _+_, _-_, _^_, _≤_, _<_}
 use native.Mathlib.Omega.{arith}
-use mathlib.Core.Path.{_≡_, refl, sym, ap, subst, _∙_}
+use mathlib.Core.Path.{_≡_, refl, ap, subst, _∙_}
 use mathlib.Core.Bool.{Bool, true, false}
 use mathlib.Core.List.{List, [], _∷_}
 use borrow.Author.Tests.{eq-eqb, eqb-true, le-leb, leb-true}
-use lib.Dec.{T}
 use lib.ListN.{length, getD, take, drop, length-drop}
 use lib.Seq.{length-take-le}
 use Rattle.lines.specs.Digits.{within, allDigits, numberOf, isNumber}
 use Rattle.lines.specs.Text.{hexOctets, isHex}
-use Rattle.lines.proofs.Digits.{and-left, and-right, within-both, within-from, within-to, number-below, number-of-digits, number-size, number-digits}
+use Rattle.lines.proofs.Digits.{by-test, and-left, and-right, within-both, within-from, within-to, number-below, number-of-digits, number-size, number-digits}
 use Rattle.lines.proofs.Text.{length-hexOctets, hex-of-digits}
 use Rattle.requests.specs.Form.{mSize, mText, keyText, inputText, directionText, every, requestTests, isRequest, nothingAsked, requestOf, asked}
-
--- a test has one value
-pub clash : {b : Bool} → b ≡ true → b ≡ false → ⊥
-clash holds fails = subst T (sym holds ∙ fails) tt
-
--- a choice by a test: what is shown on each side is shown
-pub by-test : {P : Type 0} (b : Bool) → (b ≡ true → P) → (b ≡ false → P) → P
-by-test true held failed = held refl
-by-test false held failed = failed refl
 
 -- what the test of the form says, part by part
 pub record Parts (line : List ℕ) : Type 0 where

@@ -1,13 +1,12 @@
 -- What `stream` answers to a line. Assumes nothing.
 use Prim.Native.Nat.{ℕ}
-use mathlib.Core.Path.{_≡_}
 use mathlib.Core.Bool.{cond}
 use mathlib.Core.List.{List, [], _∷_, _++_}
 use lib.Dec.{eqb}
-use lib.ListN.{length, replicate}
+use lib.ListN.{replicate}
 use Rattle.refusals.specs.Refusal.{first}
 use Rattle.keystreams.specs.Gea4.{gea4Order, gea4Output}
-use Rattle.lines.specs.Text.{front, hexText, decimalText}
+use Rattle.lines.specs.Text.{hexText, decimalText}
 use Rattle.requests.specs.declared.form.Request.{Request}
 use Rattle.requests.specs.Form.{isRequest, asked}
 
@@ -38,8 +37,3 @@ answer line = ended (answerText line)
 -- the largest answer: 1,520 pairs of digits and the line feed. An output with less room is refused
 abbrev pub largestAnswer : ℕ
 largestAnswer = 3041
-
--- an answer at the front of an output: how many octets it has, and what the output then holds
-pub record Answered (text before : List ℕ) (written : ℕ) (after : List ℕ) : Type 0 where
-  pub written-is : written ≡ length text
-  pub output-is : after ≡ front text before

@@ -1,4 +1,3 @@
 pub mod Answer
 pub mod Form
-pub mod Hearing
 pub mod Stream

@@ -1,41 +1,29 @@
--- What `stream` writes for an input, and what a run of the calls writes. Assumes nothing.
-use Prim.Native.Nat.{ℕ, _≤_}
-use mathlib.Core.Bool.{Bool, true, cond, not, _&&_}
-use mathlib.Core.List.{List, [], _∷_, _++_}
-use lib.Dec.{eqb}
-use lib.ListN.{length, take}
-use Rattle.requests.specs.declared.Heard.{Heard}
+-- The rules of `stream`, what it writes for an input, and its calls. Hearing and answering line by line is said once in the crate `lines`.
+-- Assumes nothing.
+use Prim.Native.Nat.{ℕ}
+use mathlib.Core.List.{List}
+use Rattle.lines.specs.declared.Heard.{Heard}
+use Rattle.lines.specs.Hearing.{Rules, Standing, HearCall as Hearing·HearCall, FinishCall as Hearing·FinishCall}
+use Rattle.lines.specs.Lines.{linesOf, answers}
 use Rattle.requests.specs.declared.Told.{Told}
 use Rattle.requests.specs.Answer.{answer, largestAnswer}
-use Rattle.requests.specs.Hearing.{HearCall, FinishCall}
 
--- the lines of an input whose first line has begun with `begun`: a line feed (10) ends a line, and a last line without one counts if it is not empty
-unfoldable pub linesFrom : List ℕ → List ℕ → List (List ℕ)
-linesFrom begun [] = cond (eqb (length begun) 0) [] (begun ∷ [])
-linesFrom begun (octet ∷ rest) = cond (eqb octet 10) (begun ∷ linesFrom [] rest) (linesFrom (begun ++ octet ∷ []) rest)
+-- the rules: an answer goes by its line alone, so nothing goes from line to line
+abbrev pub streamRules : Rules (Unit {0})
+streamRules = record { answer = λ _ line. answer line; after = λ _ _. tt; room = largestAnswer }
 
--- the lines of an input
-unfoldable pub linesOf : List ℕ → List (List ℕ)
-linesOf input = linesFrom [] input
+-- `stream` stands at the line so far, and at nothing else
+abbrev pub standing : Heard → Standing (Unit {0})
+standing heard = record { state = tt; heard = heard }
 
--- no octet of a text is a line feed
-unfoldable pub oneLine : List ℕ → Bool
-oneLine [] = true
-oneLine (octet ∷ rest) = not (eqb octet 10) && oneLine rest
-
--- the answers to lines, one after the other
-unfoldable pub answers : List (List ℕ) → List ℕ
-answers [] = []
-answers (line ∷ rest) = answer line ++ answers rest
-
--- what `stream` writes for an input
+-- what `stream` writes for an input: the answers to its lines
 unfoldable pub streamOutput : List ℕ → List ℕ
-streamOutput input = answers (linesOf input)
+streamOutput input = answers streamRules tt (linesOf input)
 
--- a run of the calls from a state: `hear` for each octet of the input, then `finish`, each with an output that has room; what is written is joined
-pub data Run : Heard → List ℕ → List ℕ → Type 0 where
-  finished : {heard : Heard} {before after : List ℕ} {written : ℕ}
-      → largestAnswer ≤ length before → FinishCall heard before written after → Run heard [] (take written after)
-  heard-one : {heard : Heard} {octet : ℕ} {before after rest output : List ℕ} {told : Told}
-      → largestAnswer ≤ length before → HearCall heard octet before told after → Run (told .heard) rest output
-      → Run heard (octet ∷ rest) (take (told .written) after ++ output)
+-- hearing an octet
+abbrev pub HearCall : Heard → ℕ → List ℕ → Told → List ℕ → Type 0
+HearCall heard octet before told after = Hearing·HearCall streamRules (standing heard) octet before (standing (told .heard)) (told .written) after
+
+-- the end of the input
+abbrev pub FinishCall : Heard → List ℕ → ℕ → List ℕ → Type 0
+FinishCall heard before written after = Hearing·FinishCall streamRules (standing heard) before written after

@@ -1,11 +1,14 @@
-// What a line of `stream` asks and what is answered, and the hearing of lines octet by octet.
+// What a line of `stream` asks and what is answered, octet by octet. How lines are heard is the crate `lines`.
 mod form;
 
 ghost use mathlib.Core.Path.{_≡_};
 ghost use Prim.Native.Nat.{_≤_};
 ghost use lib.ListN.{length};
-ghost use Rattle.requests.specs.Answer.{answerText, answer as Answer·answer, largestAnswer, Answered};
-ghost use Rattle.requests.specs.Hearing.{silence, kept as Hearing·kept, heardAnswer, HearCall, FinishCall};
+ghost use Rattle.lines.specs.Text.{Answered};
+ghost use Rattle.lines.specs.Hearing.{silence, heardLine};
+ghost use Rattle.requests.specs.Answer.{answerText, answer as Answer·answer, largestAnswer};
+ghost use Rattle.requests.specs.Stream.{HearCall, FinishCall};
+use lines::Heard;
 
 // What ends a line.
 const LINE_FEED: u8 = b'\n';
@@ -13,17 +16,8 @@ const LINE_FEED: u8 = b'\n';
 // The answer to a line not of the form.
 const BAD: u8 = b'?';
 
-// The most octets of a line of the form.
-const LONGEST: usize = 48;
-
 // Room for every answer: 1,520 pairs of digits and the line feed.
 const ROOM: usize = 3041;
-
-// The line so far. A count above 48 means that the line is too long, which is one bad line however long it is.
-pub struct Heard {
-    pub octets: [u8; 48],
-    pub count: usize,
-}
 
 // The state after an octet, and how many octets its answer has at the front of the output.
 pub struct Told {
@@ -51,7 +45,7 @@ fn put_text(line: &[u8], output: &mut [u8]) -> usize
         &mut octets,
     );
     if refusal != 0 {
-        return lines::decimal_of_octet(refusal, output).count;
+        return lines::decimal_of_number(refusal as u32, output).count;
     }
     let size = request.m as usize;
     lines::hex_of_octets(&octets[..size], output).count
@@ -70,45 +64,22 @@ fn put_answer(line: &[u8], output: &mut [u8]) -> usize
 // Puts the answer to the line heard.
 fn put_heard(heard: Heard, output: &mut [u8]) -> usize
     requires { ⌜ largestAnswer ≤ length (now output) ⌝ }
-    ensures { λ r. ⌜ Answered (heardAnswer heard) (now (output .entry)) r (now (output .exit)) ⌝ }
+    ensures { λ r. ⌜ Answered (Answer·answer (heardLine heard)) (now (output .entry)) r (now (output .exit)) ⌝ }
 {
     let octets = heard.octets;
     let count = heard.count;
-    if LONGEST < count {
-        output[0] = BAD;
-        output[1] = LINE_FEED;
-        return 2;
+    if lines::LONGEST < count {
+        let line = lines::too_long();
+        return put_answer(&line, output);
     }
     put_answer(&octets[..count], output)
-}
-
-// The line with one octet more.
-fn kept(heard: Heard, octet: u8) -> Heard
-    ensures { λ r. ⌜ r ≡ Hearing·kept heard octet ⌝ }
-{
-    let mut octets = heard.octets;
-    let count = heard.count;
-    if count < LONGEST {
-        octets[count] = octet;
-        return Heard {
-            octets,
-            count: count + 1,
-        };
-    }
-    Heard {
-        octets,
-        count: LONGEST + 1,
-    }
 }
 
 // Nothing heard yet.
 pub fn start() -> Heard
     ensures { λ r. ⌜ r ≡ silence ⌝ }
 {
-    Heard {
-        octets: [0; 48],
-        count: 0,
-    }
+    lines::silence()
 }
 
 // Hears one octet: a line feed has the line answered and begins a new one, any other octet is kept.
@@ -126,7 +97,7 @@ pub fn hear(heard: Heard, octet: u8, output: &mut [u8]) -> Told
             written,
         };
     }
-    let longer = kept(heard, octet);
+    let longer = lines::kept(heard, octet);
     Told {
         heard: longer,
         written: 0,

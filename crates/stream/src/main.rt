@@ -4,11 +4,12 @@ ghost use mathlib.Core.Bool.{true};
 ghost use mathlib.Core.Path.{_≡_};
 ghost use Prim.Native.Nat.{_≤_};
 ghost use lib.ListN.{length};
+ghost use Rattle.lines.specs.Hearing.{heardAfter};
 ghost use Rattle.requests.specs.Answer.{largestAnswer};
-ghost use Rattle.requests.specs.Hearing.{heardAfter};
+ghost use Rattle.requests.specs.Stream.{streamRules, standing};
 use libc::STDIN_FILENO;
 use libc::STDOUT_FILENO;
-use requests::Heard;
+use lines::Heard;
 
 // What has been heard so far, and whether to go on. Where a write has failed nothing is left to answer.
 struct Moved {
@@ -19,7 +20,7 @@ struct Moved {
 // Hears a piece of the input, octet by octet, and writes each answer.
 fn hear_piece(heard: Heard, piece: &[u8], output: &mut [u8]) -> Moved
     requires { ⌜ largestAnswer ≤ length (now output) ⌝ }
-    ensures { λ r. ⌜ (r .on ≡ true → r .heard ≡ heardAfter heard (now (piece .entry))) ⌝ }
+    ensures { λ r. ⌜ (r .on ≡ true → standing (r .heard) ≡ heardAfter streamRules (standing heard) (now (piece .entry))) ⌝ }
 {
     let mut so_far = heard;
     let mut i = 0;

@@ -3,8 +3,9 @@
 use borrow.Author.Needs.{needs}
 use denote.Ref.{now}
 use native.Mathlib.Omega.{arith}
-use Rattle.requests.specs.Answer.{answer}
-use Rattle.requests.proofs.Answers.{length-answerText, answered-ended}
+use Rattle.lines.proofs.Answered.{answered-octet}
+use Rattle.requests.specs.Answer.{ended, answer}
+use Rattle.requests.proofs.Answers.{length-answerText}
 use Rattle.requests.proofs.put_answer.Statement.{statement}
 use Rattle.requests.proofs.put_answer.Tie as tie
 
@@ -21,8 +22,8 @@ same-length : tie.Need-same-length
 same-length c = search needs
 
 returns : tie.Need-returns
-unfolding answer
-returns c = answered-ended (c .before .before .put-text .ensures) (omega (arith, length-answerText (now (c .before .before .before .before .before .before .args .line))))
+unfolding answer ended
+returns c = answered-octet 10 (c .before .before .put-text .ensures) (omega (arith, length-answerText (now (c .before .before .before .before .before .before .args .line))))
 
 pub put-answer-spec : {M : Type 1} → statement M
 put-answer-spec =

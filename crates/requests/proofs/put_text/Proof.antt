@@ -10,10 +10,12 @@ use mathlib.Core.List.{List, [], _∷_}
 use mathlib.Core.Path.{_≡_, refl, sym, ap, _∙_}
 use native.Mathlib.Omega.{arith}
 use Rattle.lines.specs.Text.{hexText, decimalText}
-use Rattle.lines.proofs.Text.{length-hexText, length-decimalText}
+use Rattle.lines.proofs.Answered.{answered-stored, answered-put}
+use Rattle.lines.proofs.InDecimal.{length-decimalText}
+use Rattle.lines.proofs.Text.{length-hexText}
 use Rattle.requests.specs.declared.form.Request.{Request}
 use Rattle.requests.specs.Answer.{refusalOf, octetsOf}
-use Rattle.requests.proofs.Answers.{read-nothing, read-answer, read-limit, text-refused, text-done, length-octets, answered-stored, answered-put, gea4-front}
+use Rattle.requests.proofs.Answers.{read-nothing, read-answer, read-limit, text-refused, text-done, length-octets, gea4-front}
 use Rattle.requests.proofs.put_text.Statement.{statement}
 use Rattle.requests.proofs.put_text.Tie as tie
 
@@ -61,8 +63,11 @@ slice-aggregate-gea4-2 c = search needs
 gea4-requires : tie.Need-gea4-requires
 gea4-requires c κs = search needs
 
-decimal-of-octet-requires : tie.Need-decimal-of-octet-requires
-decimal-of-octet-requires c κs = search needs
+cast-decimal-of-number : tie.Need-cast-decimal-of-number
+cast-decimal-of-number c = search needs
+
+decimal-of-number-requires : tie.Need-decimal-of-number-requires
+decimal-of-number-requires c κs = search needs
 
 same-length-2 : tie.Need-same-length-2
 same-length-2 c = search needs
@@ -72,7 +77,7 @@ returns-2 c =
     let at-refused = c .before .before .before .before in
     let at-gea4 = at-refused .before .before in
     let refusal : ℕ = at-gea4 .gea4 .result in
-    answered-put (c .before .before .decimal-of-octet .ensures) (omega (arith, length-decimalText refusal))
+    answered-put (c .before .before .decimal-of-number .ensures) (omega (arith, length-decimalText refusal))
     (ap decimalText (refusal-is at-gea4)
     ∙ sym (text-refused (request at-gea4) (λ none. at-refused .if2 .taken (refusal-is at-gea4 ∙ none)))
     ∙ sym (read-answer (line at-gea4) (at-request at-gea4 .request-of .ensures) (is-request at-gea4)))
@@ -115,7 +120,8 @@ put-text-spec =
     slice-aggregate-gea4
     slice-aggregate-gea4-2
     gea4-requires
-    decimal-of-octet-requires
+    cast-decimal-of-number
+    decimal-of-number-requires
     same-length-2
     returns-2
     cast-size

@@ -9,16 +9,17 @@ use lib.Seq.{length-take-le}
 use mathlib.Core.Path.{_≡_, refl, sym, ap, subst, _∙_}
 use lib.Dec.{T}
 use native.Mathlib.Omega.{arith}
-use Rattle.requests.specs.declared.Heard.{Heard}
-use Rattle.requests.specs.Hearing.{heardAfter}
-use Rattle.requests.proofs.Answers.{hear-within}
-use Rattle.requests.proofs.Run.{told-heard, heard-next, heard-all}
+use Rattle.lines.specs.Hearing.{Standing, heardAfter}
+use Rattle.lines.proofs.Hearing.{heard-next, heard-all}
+use Rattle.lines.proofs.Run.{then-hearing}
+use Rattle.requests.specs.Stream.{streamRules, standing}
+use Rattle.requests.proofs.Run.{hear-within}
 use Rattle.stream.proofs.hear_piece.Statement.{statement}
 use Rattle.stream.proofs.hear_piece.Tie as tie
 
 abbrev Inv-loop : tie.InvT-loop
 Inv-loop piece output₀ so-far₀ i₀ output so-far i =
-    (i ≤ length piece) × (heardAfter so-far₀ piece ≡ heardAfter so-far (drop i piece)) × (length output ≡ length output₀)
+    (i ≤ length piece) × (heardAfter streamRules (standing so-far₀) piece ≡ heardAfter streamRules (standing so-far) (drop i piece)) × (length output ≡ length output₀)
 
 abbrev μ-loop : tie.MeasureT-loop
 μ-loop piece output₀ so-far₀ i₀ output so-far i = length piece - i
@@ -72,8 +73,8 @@ loop-again c =
     let i : ℕ = at-loop .loop .i in (
       omega arith,
       at-loop .loop .inv .1
-          ∙ heard-next (at-loop .loop .so-far) piece i (omega arith)
-          ∙ ap (λ (h : Heard). heardAfter h (drop (i + 1) piece)) (sym (told-heard (omega (arith, at-loop .loop .inv .2, at-loop .before .before .before .pre)) (at-hear .hear .ensures))),
+          ∙ heard-next streamRules (standing (at-loop .loop .so-far)) piece i (omega arith)
+          ∙ ap (λ (s : Standing (Unit {0})). heardAfter streamRules s (drop (i + 1) piece)) (sym (then-hearing streamRules (omega (arith, at-loop .loop .inv .2, at-loop .before .before .before .pre)) (at-hear .hear .ensures))),
       length-kept at-hear,
     )
 
@@ -84,7 +85,7 @@ returns-2 : tie.Need-returns-2 Inv-loop μ-loop
 returns-2 c _ =
     let at-loop = c .before in
     let given = at-loop .before .before .before .args in
-    sym (at-loop .loop .inv .1 ∙ heard-all (at-loop .loop .so-far) (now (given .piece)) (at-loop .loop .i) (omega arith))
+    sym (at-loop .loop .inv .1 ∙ heard-all streamRules (standing (at-loop .loop .so-far)) (now (given .piece)) (at-loop .loop .i) (omega arith))
 
 pub hear-piece-spec : {M : Type 1} → statement M
 hear-piece-spec =

@@ -6,7 +6,7 @@ use lib.ListN.{length}
 use lib.Seq.{length-take-le}
 use mathlib.Core.Path.{sym}
 use native.Mathlib.Omega.{arith}
-use Rattle.requests.proofs.Answers.{finish-within}
+use Rattle.requests.proofs.Run.{finish-within}
 use Rattle.stream.proofs.main.Statement.{statement}
 use Rattle.stream.proofs.main.Tie as tie
 

@@ -16,7 +16,8 @@ use Rattle.lines.proofs.Digits.{number-digits}
 use Rattle.lines.proofs.Text.{hex-digits, front-whole}
 use Rattle.lines.proofs.Determined.{number-read, put-read, put-fits}
 use Rattle.requests.specs.Form.{mSize, mText, keyText, inputText, directionText, nothingAsked}
-use Rattle.requests.proofs.Parts.{Parts, clash, nothing-asked, key-part, input-part, length-key, m-read, key-read, input-read, input-fits, asked-by-values}
+use Rattle.lines.proofs.Digits.{clash}
+use Rattle.requests.proofs.Parts.{Parts, nothing-asked, key-part, input-part, length-key, m-read, key-read, input-read, input-fits, asked-by-values}
 use Rattle.requests.proofs.form.request_of.Statement.{statement}
 use Rattle.requests.proofs.form.request_of.Tie as tie
 

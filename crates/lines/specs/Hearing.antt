@@ -1,0 +1,83 @@
+-- Hearing lines octet by octet, for every program that answers lines. Between two octets a program stands at its state, which goes from line to
+-- line, and at the line so far. Assumes nothing.
+use Prim.Native.Nat.{ℕ, _+_}
+use mathlib.Core.Path.{_≡_}
+use mathlib.Core.Bool.{Bool, cond}
+use mathlib.Core.List.{List, [], _∷_, _++_}
+use lib.Dec.{eqb, leb, ltb}
+use lib.ListN.{length, take, set, replicate}
+use Rattle.lines.specs.declared.Heard.{Heard}
+use Rattle.lines.specs.Text.{Answered}
+
+-- nothing heard yet
+unfoldable pub silence : Heard
+silence = record { octets = replicate 48 0; count = 0 }
+
+-- one octet more of the line; of a line of more than 48 octets only that it is too long is kept
+unfoldable pub kept : Heard → ℕ → Heard
+kept heard octet =
+    cond (ltb (heard .count) 48)
+    (record { octets = set (heard .octets) (heard .count) octet; count = heard .count + 1 })
+    (record { octets = heard .octets; count = 49 })
+
+-- the line that stands for every line that is too long
+unfoldable pub tooLong : List ℕ
+tooLong = replicate 49 0
+
+-- the line heard
+unfoldable pub heardLine : Heard → List ℕ
+heardLine heard = cond (leb (heard .count) 48) (take (heard .count) (heard .octets)) tooLong
+
+-- the rules of a program that answers lines: what it answers to a line in a state, the state after the line, and the room that an output must have
+pub record Rules (S : Type 0) : Type 0 where
+  pub answer : S → List ℕ → List ℕ
+  pub after : S → List ℕ → S
+  pub room : ℕ
+
+-- where a program stands between two octets
+pub record Standing (S : Type 0) : Type 0 where
+  pub state : S
+  pub heard : Heard
+
+module _ {S : Type 0} (rules : Rules S) where
+  -- a line feed (10) ends the line: the state goes on, and a new line begins; any other octet is kept
+  unfoldable pub hearing : Standing S → ℕ → Standing S
+  hearing at octet =
+      cond (eqb octet 10)
+      (record { state = rules .after (at .state) (heardLine (at .heard)); heard = silence })
+      (record { state = at .state; heard = kept (at .heard) octet })
+
+  -- the answer to the line heard
+  unfoldable pub heardAnswer : Standing S → List ℕ
+  heardAnswer at = rules .answer (at .state) (heardLine (at .heard))
+
+  -- what is answered to an octet: at a line feed the line heard is answered
+  unfoldable pub said : Standing S → ℕ → List ℕ
+  said at octet = cond (eqb octet 10) (heardAnswer at) []
+
+  -- what is answered at the end of the input: a last line needs no line end, and nothing is answered where nothing was heard
+  unfoldable pub lastSaid : Standing S → List ℕ
+  lastSaid at = cond (eqb (at .heard .count) 0) [] (heardAnswer at)
+
+  -- where a program stands after hearing octets, one after the other
+  unfoldable pub heardAfter : Standing S → List ℕ → Standing S
+  heardAfter at [] = at
+  heardAfter at (octet ∷ rest) = heardAfter (hearing at octet) rest
+
+  -- what is answered to them
+  unfoldable pub saidBy : Standing S → List ℕ → List ℕ
+  saidBy at [] = []
+  saidBy at (octet ∷ rest) = said at octet ++ saidBy (hearing at octet) rest
+
+  -- whether an output has room for every answer
+  unfoldable pub hasRoom : List ℕ → Bool
+  hasRoom output = leb (rules .room) (length output)
+
+-- hearing an octet: where the program then stands, and the answer; an output with too little room changes neither
+pub record HearCall {S : Type 0} (rules : Rules S) (at : Standing S) (octet : ℕ) (before : List ℕ) (then : Standing S) (written : ℕ) (after : List ℕ) : Type 0 where
+  pub then-is : then ≡ cond (hasRoom rules before) (hearing rules at octet) at
+  pub said-is : Answered (cond (hasRoom rules before) (said rules at octet) []) before written after
+
+-- the end of the input
+pub record FinishCall {S : Type 0} (rules : Rules S) (at : Standing S) (before : List ℕ) (written : ℕ) (after : List ℕ) : Type 0 where
+  pub said-is : Answered (cond (hasRoom rules before) (lastSaid rules at) []) before written after
