@@ -3,10 +3,13 @@
 use Prim.Native.Nat.{ℕ}
 use mathlib.Core.Bool.{Bool}
 use lib.Dec.{eqb, eqb→eq}
+use Rattle.refusals.specs.Refusal.{first}
 use Rattle.refusals.proofs.Tests.{at-place}
 use Rattle.kgcore.specs.Kgcore.{register, blocks}
 use Rattle.keystreams.specs.A5.{gsmKind, ecsdKind, a5Inputs}
 use Rattle.keystreams.specs.Gea4.{gea4Inputs}
+use Rattle.numbering.specs.Numbering.{end, raised, candidate, mark, isRepeat, candidateOrder, accepted}
+use Rattle.link.specs.Input.{sx, inputOf}
 use Rattle.examples.specs.Marked.{Example, marked, exampleAt, Agree}
 
 -- the test: an example's two numbers are one
@@ -14,5 +17,5 @@ abbrev agree : ℕ → Example → Bool
 agree k example = eqb (example .given) (example .said)
 
 pub marked-agree : Agree marked
-unfolding Agree exampleAt marked register blocks gsmKind ecsdKind a5Inputs gea4Inputs
+unfolding Agree exampleAt marked sx inputOf register blocks gsmKind ecsdKind a5Inputs gea4Inputs first end raised candidate mark isRepeat candidateOrder accepted
 marked-agree k l = eqb→eq (exampleAt marked k .given) (exampleAt marked k .said) (at-place agree marked (record { given = 0; said = 0 }) tt k l)

@@ -3,16 +3,29 @@ use Prim.Native.Nat.{ℕ, _<_}
 use mathlib.Core.Path.{_≡_}
 use mathlib.Core.List.{List, [], _∷_}
 use lib.ListN.{length, getD}
+use Rattle.refusals.specs.Refusal.{first}
 use Rattle.kgcore.specs.Kgcore.{register, blocks}
 use Rattle.keystreams.specs.A5.{gsmKind, ecsdKind, a5Inputs}
 use Rattle.keystreams.specs.Gea4.{gea4Inputs}
+use Rattle.numbering.specs.declared.Numbering.{Numbering}
+use Rattle.numbering.specs.Numbering.{candidate, candidateOrder, accepted}
+use Rattle.link.specs.Input.{inputOf}
 
 pub record Example : Type 0 where
   pub given : ℕ
   pub said : ℕ
 
+-- a receiver's numbering at V that has accepted V - 1 alone of its window
+abbrev pub at : ℕ → Numbering
+at v = record { next = v; marks = 1 }
+
 unfoldable pub marked : List Example
 marked =
+    -- P1 to P4: INPUT of IOV, SAPI and n
+    record { given = inputOf 0 3 0; said = 0x98000000 } ∷
+    record { given = inputOf 0xFFFFFFFF 0 1; said = 0x80000000 } ∷
+    record { given = inputOf 0x7FFFFFFF 0 1; said = 0x00000000 } ∷
+    record { given = inputOf 0 15 512; said = 0xF8000200 } ∷
     -- P5: GEA4, INPUT 98000000, direction 1
     record { given = register (gea4Inputs 0x98000000 1); said = 0x9800000004FF0000 } ∷
     -- P6: GSM, COUNT 1
@@ -24,7 +37,15 @@ marked =
     record { given = blocks 64; said = 1 } ∷
     record { given = blocks 65; said = 2 } ∷
     record { given = blocks 228; said = 4 } ∷
-    record { given = blocks 696; said = 11 } ∷ []
+    record { given = blocks 696; said = 11 } ∷
+    -- P9: V 4, N 500: refusal 9
+    record { given = first (candidateOrder 32 (at 4) 500); said = 9 } ∷
+    -- P10: V 480, N 448: 448, and late, so that V stays
+    record { given = candidate 32 480 448; said = 448 } ∷
+    record { given = accepted 32 (at 480) 448 .next; said = 480 } ∷
+    -- P11: V 480, N 447: 959, and new, so that V is one more
+    record { given = candidate 32 480 447; said = 959 } ∷
+    record { given = accepted 32 (at 480) 959 .next; said = 960 } ∷ []
 
 -- example k of a table
 unfoldable pub exampleAt : List Example → ℕ → Example
