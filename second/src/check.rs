@@ -1,11 +1,13 @@
-//! This program held against the published vector files: S-boxes, round keys, every set.
+//! This program held against the published vector files: S-boxes, round keys, INPUT values,
+//! every set.
 //! Follows 3GPP TS 35.202 (tables and key schedule) and the files of the folder `vectors`.
 
 use crate::bits::{to_number, Bits};
 use crate::call;
 use crate::gates::{SBox, S7, S9};
 use crate::kasumi::{key_schedule, RoundKeys};
-use crate::vectors::{self, Published};
+use crate::link;
+use crate::vectors::{self, Published, Recorded};
 use std::fs;
 use std::path::Path;
 
@@ -23,6 +25,7 @@ pub fn report(folder: &Path) -> Result<String, String> {
         differences.extend(table_differs(name, s_box, &read(&format!("kasumi-{name}.txt"))?));
     }
     differences.extend(round_keys_differ(&read("kasumi.txt")?)?);
+    differences.extend(inputs_differ(&read("gea.txt")?)?);
 
     let mut lines = String::new();
     for name in ["kasumi.txt", "a5.txt", "gea.txt"] {
@@ -110,6 +113,20 @@ fn round_keys_differ(file: &str) -> Result<Vec<String>, String> {
     Ok(differences)
 }
 
+/// The sets that give what is behind their INPUT name it iov, sapi and n.
+fn inputs_differ(file: &str) -> Result<Vec<String>, String> {
+    let recorded = vectors::recorded(file)?;
+    if recorded.is_empty() {
+        return Ok(vec!["gea.txt: no INPUT of an offset".to_string()]);
+    }
+    let differs = |Recorded { sender, input, .. }: Recorded| {
+        let own = link::input(sender.link.iov, sender.link.sapi, sender.next);
+        let message = format!("gea.txt: INPUT {own:08X} here and {input:08X} published");
+        (own != input).then_some(message)
+    };
+    Ok(recorded.into_iter().filter_map(differs).collect())
+}
+
 #[cfg(test)]
 mod tests {
     use super::*;
@@ -137,5 +154,14 @@ mod tests {
         let wrong = vectors::KASUMI.replacen("57AC", "57AD", 1);
         assert_eq!(round_keys_differ(&wrong).unwrap().len(), 1);
         assert_eq!(round_keys_differ("").unwrap(), ["kasumi.txt: no round keys"]);
+    }
+
+    #[test]
+    fn a_wrong_input_is_named() {
+        assert_eq!(inputs_differ(vectors::GEA).unwrap(), [""; 0]);
+        let wrong = vectors::GEA.replacen("9800001A", "98000019", 1);
+        let message = "gea.txt: INPUT 9800001A here and 98000019 published";
+        assert_eq!(inputs_differ(&wrong).unwrap(), [message]);
+        assert_eq!(inputs_differ("").unwrap(), ["gea.txt: no INPUT of an offset"]);
     }
 }

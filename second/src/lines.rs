@@ -14,7 +14,8 @@ pub fn answers(input: &[u8], answer: fn(&[u8]) -> Option<String>) -> String {
     text
 }
 
-fn lines(input: &[u8]) -> Vec<&[u8]> {
+/// The lines without their line ends.
+pub fn lines(input: &[u8]) -> Vec<&[u8]> {
     let mut lines: Vec<&[u8]> = input.split(|&octet| octet == b'\n').collect();
     // What stands behind the last line end is a line only when it has an octet.
     if lines.last().is_some_and(|line| line.is_empty()) {

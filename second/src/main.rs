@@ -10,11 +10,15 @@ mod gates;
 mod kasumi;
 mod keystreams;
 mod kgcore;
+mod lent;
 mod lines;
+mod link;
 mod product;
 mod random;
+mod refusals;
 mod stream;
 mod vectors;
+mod walk;
 
 use std::env;
 use std::io::{self, Read, Write};
@@ -24,10 +28,14 @@ use std::process::ExitCode;
 const USAGE: &str = "\
 second stream          the expected output of `stream` for standard input
 second call            the expected output of `call` for standard input
+second walk            the expected output of `walk` for standard input
 second cases stream    a test input for `stream`
 second cases call      a test input for `call`
+second cases walk      a test input for `walk`
+second cases sweep     an input for `call`: V from 0 to 600 against every N
 second huge stream     an input for `stream` with lines of a megabyte
 second huge call       an input for `call` with lines of a megabyte
+second huge walk       an input for `walk` with lines of a megabyte, up to the last number
 second vectors DIR     a call and its published answer for every set of DIR
 second bench M COUNT   the exclusive or of COUNT outputs of GEA4, M octets each";
 
@@ -47,10 +55,14 @@ fn output(words: &[&str]) -> Result<Vec<u8>, String> {
     match *words {
         ["stream"] => Ok(lines::answers(&input()?, stream::answer).into()),
         ["call"] => Ok(lines::answers(&input()?, call::answer).into()),
+        ["walk"] => Ok(walk::output(&input()?).into()),
         ["cases", "stream"] => Ok(cases::stream::input().into()),
         ["cases", "call"] => Ok(cases::call::input().into()),
+        ["cases", "walk"] => Ok(cases::walk::input().into()),
+        ["cases", "sweep"] => Ok((cases::link::numbers::sweep().join("\n") + "\n").into()),
         ["huge", "stream"] => Ok(cases::huge::stream()),
         ["huge", "call"] => Ok(cases::huge::call()),
+        ["huge", "walk"] => Ok(cases::huge::walk()),
         ["vectors", folder] => Ok(check::report(Path::new(folder))?.into()),
         ["bench", m, count] => bench(m, count),
         _ => Err(USAGE.to_string()),

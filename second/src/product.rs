@@ -1,18 +1,13 @@
-//! The product's calls: refusals in their order, results at the front of lent octets.
+//! The product's calls below the link: refusals in their order, results at the front of
+//! lent octets.
 //! Follows document 01, "KGCORE and the three keystreams" and "Refusal numbers".
 
 use crate::bits::{of_number, of_octets, to_number, to_octets, Bits};
 use crate::kasumi;
 use crate::keystreams::{self, ECSD_BLOCK_BITS, GSM_BLOCK_BITS};
 use crate::kgcore::{self, Inputs};
-
-const KEY: u8 = 1;
-const RANGE: u8 = 2;
-const SIZE: u8 = 3;
-const ROOM: u8 = 4;
-
-/// A success has refusal number 0.
-const NONE: u8 = 0;
+use crate::lent::{put, short};
+use crate::refusals::{bad_key, first, KEY, NONE, RANGE, ROOM, SIZE};
 
 const LAST_COUNT: u32 = 4_194_303;
 const LAST_CB: u8 = 31;
@@ -116,24 +111,15 @@ pub fn cut(source: &[u8], start: u32, length: u32, output: &mut [u8]) -> u8 {
     refusal
 }
 
-/// Of several causes the first in the order of the list is named.
-fn first(causes: &[(u8, bool)]) -> u8 {
-    causes.iter().find(|(_, holds)| *holds).map_or(NONE, |&(number, _)| number)
+/// The octets that hold so many bits.
+pub fn size(bits: u32) -> u32 {
+    bits.div_ceil(8)
 }
 
-fn bad_key(key: &[u8]) -> bool {
-    key.len() != 16
-}
-
-/// Whether a lent buffer has too few octets for so many bits.
-fn short(lent: &[u8], bits: u64) -> bool {
-    (lent.len() as u64) < bits.div_ceil(8)
-}
-
-/// Octets of a lent buffer past the result are kept.
-fn put(bits: &[bool], lent: &mut [u8]) {
-    let octets = to_octets(bits);
-    lent[..octets.len()].copy_from_slice(&octets);
+/// The octet with all but its first `count` bits cleared.
+pub fn first_bits(octet: u8, count: u32) -> u8 {
+    let kept: Bits = of_number(octet.into(), 8).into_iter().take(count as usize).collect();
+    to_octets(&kept).first().copied().unwrap_or(0)
 }
 
 #[cfg(test)]
@@ -158,6 +144,13 @@ mod tests {
     fn the_cut_of_any_length_ends() {
         assert_eq!(cut(&[0xFF], u32::MAX, u32::MAX, &mut [0; 8]), ROOM);
         assert_eq!(cut(&[0xFF], u32::MAX, 0, &mut []), NONE);
+    }
+
+    #[test]
+    fn the_first_bits_are_the_highest() {
+        let kept = [0, 1, 7, 8, 9, u32::MAX].map(|count| first_bits(0xFF, count));
+        assert_eq!(kept, [0x00, 0x80, 0xFE, 0xFF, 0xFF, 0xFF]);
+        assert_eq!([0, 1, 8, 9, 114, u32::MAX].map(size), [0, 1, 1, 2, 15, 536_870_912]);
     }
 
     #[test]

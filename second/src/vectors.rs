@@ -5,7 +5,9 @@
 use crate::bits::{of_number, of_octets, to_number, Bits};
 use crate::kasumi::kasumi;
 use crate::lines::{based, octets};
+use crate::link::states::{Link, Sender};
 use std::collections::BTreeMap;
+use std::str::FromStr;
 
 pub const KASUMI: &str = include_str!("../../vectors/kasumi.txt");
 pub const A5: &str = include_str!("../../vectors/a5.txt");
@@ -15,6 +17,14 @@ pub const GEA: &str = include_str!("../../vectors/gea.txt");
 pub struct Published {
     pub call: String,
     pub answer: Option<String>,
+}
+
+/// A set of GEA that gives the offset, the service and the number behind its INPUT: the
+/// sender of that frame.
+pub struct Recorded {
+    pub sender: Sender,
+    pub input: u32,
+    pub keystream: Vec<u8>,
 }
 
 /// The `name = value` lines of one set.
@@ -29,9 +39,19 @@ impl<'file> Set<'file> {
         self.0.contains_key(name)
     }
 
-    fn decimal(&self, name: &str) -> Result<usize, String> {
+    fn decimal<Number: FromStr>(&self, name: &str) -> Result<Number, String> {
         let value = self.value(name)?;
         value.parse().map_err(|_| format!("{name} = {value} is not decimal"))
+    }
+
+    fn hex<Number: TryFrom<u64>>(&self, name: &str) -> Result<Number, String> {
+        let value = self.value(name)?;
+        based(value.as_bytes(), 16).ok_or(format!("{name} = {value} is not hex"))
+    }
+
+    fn octets(&self, name: &str) -> Result<Vec<u8>, String> {
+        let value = self.value(name)?;
+        octets(value.as_bytes()).ok_or(format!("{name} = {value} is not octets"))
     }
 
     /// The digits of the key; a key of 8 octets stands for the same key twice.
@@ -40,9 +60,13 @@ impl<'file> Set<'file> {
         Ok(if key.len() == 16 { key.repeat(2) } else { key.to_string() })
     }
 
+    fn key_octets(&self) -> Result<[u8; 16], String> {
+        let key = octets(self.key()?.as_bytes()).and_then(|key| key.try_into().ok());
+        key.ok_or("a key is not 16 octets of hex".to_string())
+    }
+
     pub fn key_bits(&self) -> Result<Bits, String> {
-        let key = octets(self.key()?.as_bytes()).filter(|key| key.len() == 16);
-        key.map(|key| of_octets(&key)).ok_or("a key is not 16 octets of hex".to_string())
+        Ok(of_octets(&self.key_octets()?))
     }
 }
 
@@ -77,11 +101,29 @@ pub fn calls(file: &str) -> Result<Vec<Published>, String> {
     Ok(calls)
 }
 
+/// The sets of a file that give what is behind their INPUT.
+pub fn recorded(file: &str) -> Result<Vec<Recorded>, String> {
+    let recorded = |set: &Set| {
+        let link = Link {
+            key: set.key_octets()?,
+            iov: set.hex("iov")?,
+            sapi: set.decimal("sapi")?,
+            direction: set.decimal("direction")?,
+        };
+        Ok(Recorded {
+            sender: Sender { link, next: set.decimal("n")? },
+            input: set.hex("input")?,
+            keystream: set.octets("output")?,
+        })
+    };
+    sets(file)?.iter().filter(|set| set.has("iov")).map(recorded).collect()
+}
+
 fn kgcore(set: &Set) -> Result<Published, String> {
     let value = |name| set.value(name);
     let (ca, cb, cc) = (value("ca")?, value("cb")?, value("cc")?);
     let (cd, ce, co) = (value("cd")?, value("ce")?, value("co")?);
-    let (key, cl, room) = (set.key()?, set.decimal("bits")?, co.len() / 2);
+    let (key, cl, room) = (set.key()?, set.decimal::<usize>("bits")?, co.len() / 2);
     Ok(Published {
         call: format!("kgcore {key} 0x{ca} 0x{cb} 0x{cc} 0x{cd} 0x{ce} {cl} {room}"),
         answer: Some(format!("0 {co}")),
@@ -104,7 +146,7 @@ fn a5(set: &Set) -> Result<Published, String> {
 
 fn gea4(set: &Set) -> Result<Published, String> {
     let (key, input, direction) = (set.key()?, set.value("input")?, set.value("direction")?);
-    let (m, output) = (set.decimal("m")?, set.value("output")?);
+    let (m, output) = (set.decimal::<usize>("m")?, set.value("output")?);
     Ok(Published {
         call: format!("gea4 {key} 0x{input} {direction} {m} {m}"),
         answer: Some(format!("0 {output}")),
@@ -116,9 +158,7 @@ fn gea4(set: &Set) -> Result<Published, String> {
 fn chain(set: &Set) -> Result<Vec<Published>, String> {
     let (key, key_bits, output) = (set.key()?, set.key_bits()?, set.value("output")?);
     let times = if set.has("times") { set.decimal("times")? } else { 1 };
-    let input = set.value("input")?;
-    let mut block: u64 =
-        based(input.as_bytes(), 16).ok_or(format!("input = {input} is not a block"))?;
+    let mut block: u64 = set.hex("input")?;
     let mut calls = Vec::new();
     for time in 1..=times {
         calls.push(Published {

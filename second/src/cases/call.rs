@@ -1,7 +1,7 @@
 //! The test input for the program `call`: published vectors, document 01's examples,
-//! edges, every refusal alone and with others, bad lines, random lines.
+//! edges, every refusal alone and with others, bad lines, random lines; then the link's.
 
-use super::{call_forms, ended, published, spoiled, KEY, SIZES};
+use super::{call_forms, ended, link, published, spoiled, KEY, SIZES};
 use crate::random::Random;
 use crate::vectors;
 
@@ -27,6 +27,7 @@ pub fn input() -> String {
         call_forms::bad_octets(),
         call_forms::bad_lines(),
         random_lines(),
+        link::lines(),
     ];
     ended(parts.concat())
 }
@@ -267,6 +268,13 @@ mod tests {
             ("ecsd", vec!["0", "1", "2", "4", "?"]),
             ("gea4", vec!["0", "1", "2", "3", "4", "?"]),
             ("cut", vec!["0", "4", "?"]),
+            ("look", vec!["0", "5", "6", "7", "?"]),
+            ("put_header", vec!["0", "2", "3", "4", "?"]),
+            ("open_sender", vec!["0", "1", "2", "?"]),
+            ("open_receiver", vec!["0", "1", "2", "?"]),
+            ("seal", vec!["0", "12", "3", "10", "4", "?"]),
+            ("open", vec!["0", "12", "5", "6", "7", "8", "9", "10", "11", "4", "?"]),
+            ("number", vec!["0", "12", "2", "9", "10", "11", "?"]),
         ];
         for (name, numbers) in refusals {
             assert!(numbers.iter().all(|number| meets(name, number)), "{name}");

@@ -4,7 +4,7 @@ use super::{KEY, NEAR_HEX};
 
 /// Fields between spaces, the first of them empty, that are no numbers: signs, other digits,
 /// prefixes of another form, a digit too many.
-const NO_NUMBERS: &str = " - -1 +1 1x x1 0x 0X1 00x1 0x0x1 1,0 1.0 1_0 A 0xG 0x-1 12345678901 \
+pub const NO_NUMBERS: &str = " - -1 +1 1x x1 0x 0X1 00x1 0x0x1 1,0 1.0 1_0 A 0xG 0x-1 12345678901 \
     00000000001 0x00000000000000001 0x10000000000000000 18446744073709551616";
 
 /// The forms that a good field may have.
@@ -75,14 +75,17 @@ pub fn bad_numbers() -> Vec<String> {
     lines
 }
 
-/// Octets that are none: half a pair, a letter beside hex, a sign, too many.
+/// Fields that are no octets: half a pair, a letter beside hex, a sign, too many.
+pub fn no_octets() -> Vec<String> {
+    let too_many = "00".repeat(2049);
+    let bad = ["", "0", "--", "-0", "0-", "0x00", too_many.as_str(), &KEY[1..]];
+    let beside = NEAR_HEX.map(|letter| KEY.replace('C', &letter.to_string()));
+    bad.map(str::to_string).into_iter().chain(beside).collect()
+}
+
 pub fn bad_octets() -> Vec<String> {
     let mut lines = Vec::new();
-    let too_many = "00".repeat(2049);
-    let mut bad = vec!["", "0", "--", "-0", "0-", "0x00", too_many.as_str(), &KEY[1..]];
-    let beside = NEAR_HEX.map(|letter| KEY.replace('C', &letter.to_string()));
-    bad.extend(beside.iter().map(String::as_str));
-    for octets in bad {
+    for octets in no_octets() {
         lines.push(format!("kasumi {octets} 6"));
         lines.push(format!("kgcore {octets} 1 2 3 0 5 9 2"));
         lines.push(format!("gsm {octets} 6 15 15"));
@@ -93,28 +96,32 @@ pub fn bad_octets() -> Vec<String> {
     lines
 }
 
+/// A good line, and lines with its fields in bad places.
+pub fn spoilt_forms(line: &str) -> Vec<String> {
+    let (but_last, _) = line.rsplit_once(' ').expect("a call has fields");
+    vec![
+        line.to_string(),
+        but_last.to_string(),
+        format!("{but_last} "),
+        format!("{line} 0"),
+        format!(" {line}"),
+        format!("{line} "),
+        format!("{line}\r"),
+        format!("{line}\t"),
+        line.replacen(' ', "  ", 1),
+        line.replacen(' ', "\t", 1),
+        line.replace(' ', "\t"),
+        line.replace(' ', ","),
+        line.replace(' ', ""),
+        line.to_uppercase(),
+        line[1..].to_string(),
+        format!("x{line}"),
+    ]
+}
+
 /// Lines with good fields in bad places, each kind beside the good line that it spoils.
 pub fn bad_lines() -> Vec<String> {
-    let mut lines = Vec::new();
-    for line in good_lines() {
-        let (but_last, _) = line.rsplit_once(' ').expect("a call has fields");
-        lines.push(line.clone());
-        lines.push(but_last.to_string());
-        lines.push(format!("{but_last} "));
-        lines.push(format!("{line} 0"));
-        lines.push(format!(" {line}"));
-        lines.push(format!("{line} "));
-        lines.push(format!("{line}\r"));
-        lines.push(format!("{line}\t"));
-        lines.push(line.replacen(' ', "  ", 1));
-        lines.push(line.replacen(' ', "\t", 1));
-        lines.push(line.replace(' ', "\t"));
-        lines.push(line.replace(' ', ","));
-        lines.push(line.replace(' ', ""));
-        lines.push(line.to_uppercase());
-        lines.push(line[1..].to_string());
-        lines.push(format!("x{line}"));
-    }
+    let mut lines: Vec<String> = good_lines().iter().flat_map(|line| spoilt_forms(line)).collect();
     let alone =
         ["", " ", "  ", "\r", "\t", "?", "-", "0", "kasumi", "cut", "call", "stream", "gea3"];
     lines.extend(alone.map(str::to_string));

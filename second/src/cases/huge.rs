@@ -1,7 +1,8 @@
 //! Inputs with lines of a megabyte, too large to be kept as files: an over-long line,
-//! a good line, then random octets that no line end closes.
+//! good lines, then random octets that no line end closes.
 
 use super::KEY;
+use crate::link::numbering::LAST_NUMBER;
 use crate::random::Random;
 
 const MEGABYTE: usize = 1_048_576;
@@ -14,10 +15,22 @@ pub fn call() -> Vec<u8> {
     around(&format!("gea4 {KEY} 0x98000000 1 9 10"))
 }
 
-fn around(good_line: &str) -> Vec<u8> {
+/// The good lines lead over the longest gaps to the last number and try what lies behind it.
+pub fn walk() -> Vec<u8> {
+    let longest_gaps = (1..).map(|step| 480 * step - 1).take_while(|&number| number < LAST_NUMBER);
+    let full = LAST_NUMBER + 1;
+    let mut numbers: Vec<i64> = longest_gaps.collect();
+    numbers.extend([LAST_NUMBER - 1, full + 3, LAST_NUMBER, LAST_NUMBER]);
+    numbers.extend((0..512).map(|offset| full + 479 - offset));
+    numbers.extend((0..512).map(|offset| full + 479 - offset));
+    let lines: Vec<String> = numbers.iter().map(|number| (number % 512).to_string()).collect();
+    around(&lines.join("\n"))
+}
+
+fn around(good_lines: &str) -> Vec<u8> {
     let mut random = Random::seeded(3);
     let mut input = vec![b'0'; MEGABYTE];
-    input.extend(format!("\n{good_line}\n").as_bytes());
+    input.extend(format!("\n{good_lines}\n").as_bytes());
     // No octet is a line end, so that all of it is one line.
     input.extend((0..MEGABYTE).map(|_| match random.octet() {
         b'\n' => 0,
@@ -28,7 +41,7 @@ fn around(good_line: &str) -> Vec<u8> {
 
 #[cfg(test)]
 mod tests {
-    use crate::{call, lines, stream};
+    use crate::{call, lines, stream, walk};
 
     #[test]
     fn the_good_line_between_two_huge_ones_is_answered() {
@@ -37,5 +50,18 @@ mod tests {
         let octets = octets.expect("both huge lines are bad");
         assert_eq!(octets.len(), 18);
         assert_eq!(lines::answers(&super::call(), call::answer), format!("?\n0 {octets}AA\n?\n"));
+    }
+
+    #[test]
+    fn the_walk_reaches_the_last_number() {
+        let output = walk::output(&super::walk());
+        let lines: Vec<&str> = output.lines().collect();
+        assert_eq!(lines[1], "? - 2 0");
+        assert!(lines.contains(&"511 134217727 ok 134217728"));
+        assert!(lines.contains(&"511 134217727 11 134217728"));
+        assert!(lines.contains(&"0 - 10 134217728"));
+        assert!(lines.contains(&"480 134217696 ok 134217728"));
+        assert!(lines.contains(&"479 - 10 134217728"));
+        assert_eq!(lines.last(), Some(&"? - 2 134217728"));
     }
 }

@@ -3,7 +3,9 @@
 pub mod call;
 mod call_forms;
 pub mod huge;
+pub mod link;
 pub mod stream;
+pub mod walk;
 
 use crate::random::Random;
 use crate::vectors::{self, Published};

@@ -8,23 +8,25 @@
 //! ecsd KEY COUNT ROOM1 ROOM2
 //! gea4 KEY INPUT DIRECTION M ROOM
 //! cut OCTETS START LENGTH ROOM
+//! size BITS
+//! first_bits OCTET COUNT
 //! ```
 //!
 //! One space stands between fields. KEY and OCTETS are pairs of hex digits, at most 2,048,
 //! or `-` for none. All else are numbers within the type of their parameter: decimal, or hex
 //! after `0x`. ROOM is the size of a lent output, at most 65,600. A line has at most 8,192
 //! octets. The answer is the refusal number, then KASUMI's block or every octet of each
-//! lent output (`-` for none), in capital hex.
+//! lent output (`-` for none), in capital hex. Where nothing can be refused, only the result
+//! is shown, in decimal. The lines of the link are described in `call/link.rs`.
 
-use crate::lines::{based, fields, hex, octets};
+pub mod form;
+mod link;
+
+use crate::lines::fields;
 use crate::product::{self, Numbers};
+use form::{handed_out, lent, number, octets_field};
 
 const LONGEST_LINE: usize = 8192;
-const MOST_OCTETS: usize = 2048;
-const LARGEST_ROOM: usize = 65_600;
-
-/// What a lent octet holds before the call, so that a kept octet shows.
-const UNTOUCHED: u8 = 0xAA;
 
 /// The answer to a line, or nothing for a line that is not of the form.
 pub fn answer(line: &[u8]) -> Option<String> {
@@ -62,7 +64,11 @@ pub fn answer(line: &[u8]) -> Option<String> {
             let refusal = product::cut(&source, number(start)?, number(length)?, &mut output);
             Some(handed_out(refusal, &[output]))
         }
-        _ => None,
+        [b"size", bits] => Some(product::size(number(bits)?).to_string()),
+        [b"first_bits", octet, count] => {
+            Some(product::first_bits(number(octet)?, number(count)?).to_string())
+        }
+        ref others => link::answer(others),
     }
 }
 
@@ -76,39 +82,6 @@ fn a5(
     let (mut block1, mut block2) = (lent(room1)?, lent(room2)?);
     let refusal = call(&octets_field(key)?, number(count)?, &mut block1, &mut block2);
     Some(handed_out(refusal, &[block1, block2]))
-}
-
-/// Pairs of hex digits, or `-` for no octets.
-fn octets_field(field: &[u8]) -> Option<Vec<u8>> {
-    match field {
-        b"-" => Some(Vec::new()),
-        b"" => None,
-        digits => octets(digits).filter(|octets| octets.len() <= MOST_OCTETS),
-    }
-}
-
-/// One to ten decimal digits, or `0x` and 1 to 16 hex digits; its type bounds it.
-fn number<Number: TryFrom<u64>>(field: &[u8]) -> Option<Number> {
-    match field.strip_prefix(b"0x") {
-        Some(digits) if digits.len() <= 16 => based(digits, 16),
-        None if field.len() <= 10 => based(field, 10),
-        _ => None,
-    }
-}
-
-/// A lent buffer of the size that a field gives.
-fn lent(room: &[u8]) -> Option<Vec<u8>> {
-    let room = number(room).filter(|&room| room <= LARGEST_ROOM)?;
-    Some(vec![UNTOUCHED; room])
-}
-
-fn handed_out(refusal: u8, buffers: &[Vec<u8>]) -> String {
-    let mut text = refusal.to_string();
-    for buffer in buffers {
-        text.push(' ');
-        text.push_str(&if buffer.is_empty() { "-".to_string() } else { hex(buffer) });
-    }
-    text
 }
 
 #[cfg(test)]
@@ -140,6 +113,10 @@ mod tests {
         assert_eq!(answer_to("cut - 4294967295 0 0"), "0 -");
         assert_eq!(answer_to("cut - 4294967296 0 0"), "?");
         assert_eq!(answer_to("cut - 0 0 65601"), "?");
+        assert_eq!(answer_to("size 4294967295"), "536870912");
+        assert_eq!(answer_to("size 4294967296"), "?");
+        assert_eq!(answer_to("first_bits 255 4294967295"), "255");
+        assert_eq!(answer_to("first_bits 256 0"), "?");
     }
 
     #[test]

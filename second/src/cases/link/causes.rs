@@ -1,0 +1,148 @@
+//! Sealing and opening with every set of causes that can meet, so that the order of the
+//! refusals shows, and with every kind of state that cannot arise.
+
+use super::{open_line, payload, receiver, seal_line, sealed, sender, FULL, LINK};
+use crate::link::frame::framed;
+use crate::link::states::{Link, Receiver, Sender};
+
+pub fn lines() -> Vec<String> {
+    [refused_seals(), sender_states(), refused_opens(), receiver_states()].concat()
+}
+
+/// 12, 3, 10 and 4 in every set; a next number above 2^27 cannot meet 10.
+fn refused_seals() -> Vec<String> {
+    let mut lines = Vec::new();
+    for next in [5, FULL, FULL + 1] {
+        for sapi in [3, 16] {
+            let sender = Sender { link: Link { sapi, ..LINK }, next };
+            for size in [4, 0, 1_521] {
+                let payload = payload(size);
+                lines.extend([size + 6, 3].map(|room| seal_line(sender, &payload, room)));
+            }
+        }
+    }
+    lines
+}
+
+/// What can be wrong with a frame that is opened, beside its number.
+struct Causes {
+    state: bool,
+    length: bool,
+    version: bool,
+    spare: bool,
+    other: bool,
+    room: bool,
+}
+
+/// 12, 5, 6, 7, 8, one of 9, 10, 11 or none, and 4, in every set.
+fn refused_opens() -> Vec<String> {
+    let new = (600, 0x21, 602 - 512);
+    let late = (600, 0x21, 590 - 512);
+    let start = (4, 0xD, 500);
+    let end = (FULL, 0x21, 0);
+    let repeat = (600, 0x21, 594 - 512);
+    let mut lines = Vec::new();
+    for (next, marks, n) in [new, late, start, end, repeat] {
+        for set in 0..64 {
+            let has = |place: u32| set >> place & 1 == 1;
+            let causes = Causes {
+                state: has(0),
+                length: has(1),
+                version: has(2),
+                spare: has(3),
+                other: has(4),
+                room: has(5),
+            };
+            lines.push(refused_open(receiver(next, marks), n, &causes));
+        }
+    }
+    lines
+}
+
+fn refused_open(mut receiver: Receiver, n: u32, causes: &Causes) -> String {
+    let sapi = if causes.other { 4 } else { LINK.sapi };
+    let mut frame = framed(sapi, LINK.direction, n, &payload(3));
+    if causes.state {
+        receiver.marks &= !1;
+    }
+    if causes.length {
+        frame.push(0);
+    }
+    if causes.version {
+        frame[2] = 2;
+    }
+    if causes.spare {
+        frame[4] |= 0x80;
+    }
+    open_line(receiver, &frame, if causes.room { 2 } else { 3 })
+}
+
+/// Services and directions within their range and out of it; the last is what a refused
+/// opening hands back.
+fn links() -> Vec<Link> {
+    let mut links: Vec<Link> = [(0, 0), (15, 1), (16, 1), (255, 0), (15, 2), (0, 255), (16, 2)]
+        .map(|(sapi, direction)| Link { sapi, direction, ..LINK })
+        .to_vec();
+    links.push(Link { key: [0; 16], iov: 0, sapi: 0, direction: 2 });
+    links
+}
+
+fn sender_states() -> Vec<String> {
+    let mut lines = Vec::new();
+    for link in links() {
+        for next in [0, 1, FULL - 1, FULL, FULL + 1, u32::MAX] {
+            lines.push(seal_line(Sender { link, next }, &payload(2), 9));
+        }
+    }
+    lines
+}
+
+/// Each cause of 12 alone, and beside it the states that just arise.
+fn receiver_states() -> Vec<String> {
+    let states: [(u32, &[u32]); 9] = [
+        (0, &[0, 1, 2, 1 << 31, u32::MAX]),
+        (1, &[1, 0, 2, 3]),
+        (5, &[0x1F, 0x1E, 0x21, 0x3F]),
+        (31, &[u32::MAX >> 1, u32::MAX, 1 << 31 | 1]),
+        (32, &[u32::MAX, u32::MAX - 1]),
+        (600, &[1, 0]),
+        (FULL, &[1, 0]),
+        (FULL + 1, &[1, 0]),
+        (u32::MAX, &[1, u32::MAX]),
+    ];
+    let mut lines = Vec::new();
+    for (next, marks) in states {
+        let frame = sealed(sender(next.min(FULL - 1)), &payload(2));
+        lines.extend(marks.iter().map(|&marks| open_line(receiver(next, marks), &frame, 3)));
+    }
+    for link in links() {
+        for (next, marks) in [(0, 0), (600, 1), (600, 0), (FULL + 1, 1)] {
+            let direction = link.direction % 2;
+            let frame = framed(link.sapi % 16, direction, next % 512, &payload(2));
+            lines.push(open_line(Receiver { link, next, marks }, &frame, 3));
+        }
+    }
+    lines
+}
+
+#[cfg(test)]
+mod tests {
+    use super::*;
+    use crate::call;
+
+    #[test]
+    fn the_first_cause_of_every_set_is_named() {
+        let by_number = [0, 0, 9, 10, 11];
+        for (place, line) in refused_opens().iter().enumerate() {
+            let (set, numbering) = (place % 64, by_number[place / 64]);
+            let has = |place: u32| set >> place & 1 == 1;
+            let expected = [(has(0), 12), (has(1), 5), (has(2), 6), (has(3), 7), (has(4), 8)]
+                .into_iter()
+                .chain([(numbering != 0, numbering), (has(5), 4)])
+                .find(|&(holds, _)| holds)
+                .map_or(0, |(_, refusal)| refusal);
+            let answer = call::answer(line.as_bytes()).unwrap();
+            assert_eq!(answer.split(' ').next(), Some(expected.to_string().as_str()), "{line}");
+        }
+    }
+}

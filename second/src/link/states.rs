@@ -1,0 +1,117 @@
+//! The states of a sender and of a receiver, and how an end is opened.
+//! Follows document 01, "The link" and "Refusal numbers".
+
+use crate::lines::hex;
+use crate::link::frame::{LAST_DIRECTION, LAST_SAPI};
+use crate::link::numbering::{History, LAST_NUMBER};
+use crate::refusals::{bad_key, first, KEY, NONE, RANGE};
+use std::fmt::{Display, Formatter, Result};
+
+/// What both ends of a link agree on.
+#[derive(Clone, Copy, Debug, PartialEq)]
+pub struct Link {
+    pub key: [u8; 16],
+    pub iov: u32,
+    pub sapi: u8,
+    pub direction: u8,
+}
+
+#[derive(Clone, Copy, Debug, PartialEq)]
+pub struct Sender {
+    pub link: Link,
+    pub next: u32,
+}
+
+#[derive(Clone, Copy, Debug, PartialEq)]
+pub struct Receiver {
+    pub link: Link,
+    pub next: u32,
+    pub marks: u32,
+}
+
+/// A refused opening hands back all zeros with direction 2, which 12 then refuses.
+const NO_LINK: Link = Link { key: [0; 16], iov: 0, sapi: 0, direction: 2 };
+
+pub fn open_sender(key: &[u8], iov: u32, sapi: u8, direction: u8) -> (u8, Sender) {
+    let (refusal, link) = open_link(key, iov, sapi, direction);
+    (refusal, Sender { link, next: 0 })
+}
+
+pub fn open_receiver(key: &[u8], iov: u32, sapi: u8, direction: u8) -> (u8, Receiver) {
+    let (refusal, link) = open_link(key, iov, sapi, direction);
+    (refusal, Receiver { link, next: 0, marks: 0 })
+}
+
+fn open_link(key: &[u8], iov: u32, sapi: u8, direction: u8) -> (u8, Link) {
+    let refusal =
+        first(&[(KEY, bad_key(key)), (RANGE, sapi > LAST_SAPI || direction > LAST_DIRECTION)]);
+    let link = match <[u8; 16]>::try_from(key) {
+        Ok(key) if refusal == NONE => Link { key, iov, sapi, direction },
+        _ => NO_LINK,
+    };
+    (refusal, link)
+}
+
+impl Link {
+    /// 12: SAPI or direction out of range.
+    fn cannot_arise(&self) -> bool {
+        self.sapi > LAST_SAPI || self.direction > LAST_DIRECTION
+    }
+}
+
+impl Sender {
+    /// 12; a next number of 2^27 does arise, after the last frame.
+    pub fn cannot_arise(&self) -> bool {
+        i64::from(self.next) > LAST_NUMBER + 1 || self.link.cannot_arise()
+    }
+}
+
+impl Receiver {
+    /// The history behind the state, or nothing when 12 applies.
+    pub fn history(&self) -> Option<History> {
+        History::of_state(self.next, self.marks).filter(|_| !self.link.cannot_arise())
+    }
+}
+
+/// A state is written as its fields in order: the key in hex, the numbers in decimal.
+impl Display for Link {
+    fn fmt(&self, to: &mut Formatter) -> Result {
+        let Link { key, iov, sapi, direction } = self;
+        write!(to, "{} {iov} {sapi} {direction}", hex(key))
+    }
+}
+
+impl Display for Sender {
+    fn fmt(&self, to: &mut Formatter) -> Result {
+        write!(to, "{} {}", self.link, self.next)
+    }
+}
+
+impl Display for Receiver {
+    fn fmt(&self, to: &mut Formatter) -> Result {
+        write!(to, "{} {} {}", self.link, self.next, self.marks)
+    }
+}
+
+#[cfg(test)]
+mod tests {
+    use super::*;
+
+    #[test]
+    fn a_short_key_is_named_before_a_range_and_leaves_a_state_for_12() {
+        let (refusal, sender) = open_sender(&[7; 15], 5, 16, 2);
+        assert_eq!((refusal, sender), (KEY, Sender { link: NO_LINK, next: 0 }));
+        assert!(sender.cannot_arise());
+        let (refusal, receiver) = open_receiver(&[7; 16], 5, 15, 2);
+        assert_eq!(refusal, RANGE);
+        assert_eq!(receiver.to_string(), format!("{} 0 0 2 0 0", "00".repeat(16)));
+        assert!(receiver.history().is_none());
+    }
+
+    #[test]
+    fn an_opened_end_holds_what_it_was_given() {
+        let (refusal, receiver) = open_receiver(&[7; 16], 5, 15, 1);
+        assert_eq!(refusal, NONE);
+        assert_eq!(receiver.to_string(), format!("{} 5 15 1 0 0", "07".repeat(16)));
+    }
+}
