@@ -152,3 +152,22 @@ fn cut(source: &[u8], start: u32, length: u32, output: &mut [u8]) -> bool {
     let refusal = octets::cut(source, start, length, output);
     tell::lent(refusal, output)
 }
+
+// size BITS
+pub(crate) fn size_line(line: &[u8]) -> bool {
+    let bits = fields::number32(line, 1);
+    if !bits.ok {
+        return tell::bad();
+    }
+    tell::number(octets::size(bits.value) as u64) && tell::line_end()
+}
+
+// first_bits OCTET COUNT
+pub(crate) fn first_bits_line(line: &[u8]) -> bool {
+    let octet = fields::number8(line, 1);
+    let count = fields::number32(line, 2);
+    if !(octet.ok & count.ok) {
+        return tell::bad();
+    }
+    tell::number(octets::first_bits(octet.value, count.value as usize) as u64) && tell::line_end()
+}

@@ -1,14 +1,19 @@
-// Makes any public call: a line of standard input is a call, and a line of standard output everything that it hands out.
+// Makes any public call of the ciphers, the keystreams, the bit strings, the numbering, the frame and the link: a line of standard input is a call,
+// and a line of standard output everything that it hands out.
 mod calls;
 mod fields;
+mod links;
 mod tell;
 
 use libc::STDIN_FILENO;
 
 // The answer to a line, by its first field and how many fields there are.
 fn answer(line: &[u8]) -> bool {
-    let name = fields::field(line, 0);
-    let count = fields::count(line);
+    cipher_answer(line, fields::field(line, 0), fields::count(line))
+}
+
+// A call of the ciphers, the keystreams or the bit strings.
+fn cipher_answer(line: &[u8], name: &[u8], count: usize) -> bool {
     if count == 3 && check::same(name, b"kasumi") {
         return calls::kasumi_line(line);
     }
@@ -27,6 +32,52 @@ fn answer(line: &[u8]) -> bool {
     if count == 5 && check::same(name, b"cut") {
         return calls::cut_line(line);
     }
+    if count == 2 && check::same(name, b"size") {
+        return calls::size_line(line);
+    }
+    if count == 3 && check::same(name, b"first_bits") {
+        return calls::first_bits_line(line);
+    }
+    numbering_answer(line, name, count)
+}
+
+// A call of the numbering or the frame.
+fn numbering_answer(line: &[u8], name: &[u8], count: usize) -> bool {
+    if count == 1 && check::same(name, b"start") {
+        return links::start_line();
+    }
+    if count == 3 && check::same(name, b"is_good") {
+        return links::is_good_line(line);
+    }
+    if count == 4 && check::same(name, b"number") {
+        return links::number_line(line);
+    }
+    if count == 2 && check::same(name, b"look") {
+        return links::look_line(line);
+    }
+    if count == 2 && check::same(name, b"header") {
+        return links::header_line(line);
+    }
+    if count == 6 && check::same(name, b"put_header") {
+        return links::put_header_line(line);
+    }
+    link_answer(line, name, count)
+}
+
+// A call of the link's ends.
+fn link_answer(line: &[u8], name: &[u8], count: usize) -> bool {
+    if count == 5 && check::same(name, b"open_sender") {
+        return links::open_sender_line(line);
+    }
+    if count == 5 && check::same(name, b"open_receiver") {
+        return links::open_receiver_line(line);
+    }
+    if count == 8 && check::same(name, b"seal") {
+        return links::seal_line(line);
+    }
+    if count == 9 && check::same(name, b"open") {
+        return links::open_line(line);
+    }
     tell::bad()
 }
 
@@ -38,8 +89,10 @@ fn answer_heard(line: &[u8], count: usize) -> bool {
     answer(&line[..count])
 }
 
-// More than any line has: the input ended, or nothing can be written.
-const STOP: usize = usize::MAX;
+// More than any line has: the input ended; and nothing can be written any more.
+const ENDED: usize = usize::MAX;
+
+const FAILED: usize = usize::MAX - 1;
 
 // Hears a piece of the input: octets go to the line, and a line end has it answered. Answers how many octets of the last line were heard.
 fn hear(piece: &[u8], line: &mut [u8], heard: usize) -> usize {
@@ -48,7 +101,7 @@ fn hear(piece: &[u8], line: &mut [u8], heard: usize) -> usize {
     while i < piece.len() {
         if piece[i] == b'\n' {
             if !answer_heard(line, count) {
-                return STOP;
+                return FAILED;
             }
             count = 0;
         } else if count < line.len() {
@@ -68,7 +121,7 @@ fn hear_some(line: &mut [u8], heard: usize) -> usize {
     let got = libc::read(STDIN_FILENO, &mut piece);
     let n = io::count(got, &piece);
     if n == 0 {
-        return STOP;
+        return ENDED;
     }
     hear(&piece[..n], line, heard)
 }
@@ -79,7 +132,10 @@ fn hear_all(line: &mut [u8]) {
     let mut turns = u64::MAX;
     while 0 < turns {
         let next = hear_some(line, heard);
-        if next == STOP {
+        if next == FAILED {
+            return;
+        }
+        if next == ENDED {
             turns = 0;
         } else {
             heard = next;

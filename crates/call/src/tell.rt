@@ -22,24 +22,29 @@ pub(crate) fn block(refusal: u8, block: u64) -> bool {
 
 // A refusal and what a lent buffer holds.
 pub(crate) fn lent(refusal: u8, octets: &[u8]) -> bool {
-    number(refusal) && buffer(octets) && line_end()
+    number(refusal as u64) && buffer(octets) && line_end()
 }
 
 // A refusal and what two lent buffers hold.
 pub(crate) fn both_lent(refusal: u8, octets1: &[u8], octets2: &[u8]) -> bool {
-    number(refusal) && buffer(octets1) && buffer(octets2) && line_end()
+    number(refusal as u64) && buffer(octets1) && buffer(octets2) && line_end()
 }
 
-fn number(number: u8) -> bool {
-    io::print_decimal(STDOUT_FILENO, number as u64)
+pub(crate) fn number(number: u64) -> bool {
+    io::print_decimal(STDOUT_FILENO, number)
 }
 
-fn line_end() -> bool {
+// A space, and a number.
+pub(crate) fn next_number(value: u64) -> bool {
+    io::write_all(STDOUT_FILENO, b" ") && number(value)
+}
+
+pub(crate) fn line_end() -> bool {
     io::write_all(STDOUT_FILENO, b"\n")
 }
 
 // A space, and all octets of a buffer as hex, or - where it has none.
-fn buffer(octets: &[u8]) -> bool {
+pub(crate) fn buffer(octets: &[u8]) -> bool {
     if octets.len() == 0 {
         return io::write_all(STDOUT_FILENO, b" -");
     }

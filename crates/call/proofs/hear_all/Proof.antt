@@ -19,6 +19,12 @@ loop-holds c = refl
 hear-some-requires : tie.Need-hear-some-requires Inv-loop μ-loop
 hear-some-requires c κs = search needs
 
+same-length : tie.Need-same-length Inv-loop μ-loop
+same-length c = search needs
+
+returns : tie.Need-returns Inv-loop μ-loop
+returns c = search needs
+
 loop-less : tie.Need-loop-less Inv-loop μ-loop
 loop-less c = search needs
 
@@ -37,17 +43,17 @@ loop-again-2 c = search needs
 answer-heard-requires : tie.Need-answer-heard-requires Inv-loop μ-loop
 answer-heard-requires c κs = search needs
 
-same-length : tie.Need-same-length Inv-loop μ-loop
-same-length c = search needs
-
-returns : tie.Need-returns Inv-loop μ-loop
-returns c = search needs
-
 same-length-2 : tie.Need-same-length-2 Inv-loop μ-loop
 same-length-2 c = search needs
 
 returns-2 : tie.Need-returns-2 Inv-loop μ-loop
 returns-2 c = search needs
+
+same-length-3 : tie.Need-same-length-3 Inv-loop μ-loop
+same-length-3 c = search needs
+
+returns-3 : tie.Need-returns-3 Inv-loop μ-loop
+returns-3 c = search needs
 
 pub hear-all-spec : {M : Type 1} → statement M
 hear-all-spec =
@@ -57,13 +63,15 @@ hear-all-spec =
     μ-loop
     loop-holds
     hear-some-requires
+    same-length
+    returns
     loop-less
     loop-again
     sub-turns
     loop-less-2
     loop-again-2
     answer-heard-requires
-    same-length
-    returns
     same-length-2
-    returns-2)
+    returns-2
+    same-length-3
+    returns-3)
