@@ -1,5 +1,6 @@
 #!/usr/bin/env bash
-# Fails when a page names a file or a name that does not exist, or when docs/CALLS.md does not list exactly the public calls.
+# Fails when a page names a file or a name that does not exist, when docs/CALLS.md does not list exactly the public calls, when
+# docs/ARCHITECTURE.md does not say what crates.txt says, or when a public function has a `requires`.
 # On the pages, `crate/folder/File.ext#name` is a name in a file under crates/, and `a/path.ext` a file.
 set -euo pipefail
 top=$(cd "$(dirname "$0")/.." && pwd -P)
@@ -28,7 +29,7 @@ for page in README.md docs/*.md docs/*/*.md; do
         path=${token%%#*}
         file=$(found "$path") || { fault "$page: no file $path"; continue; }
         case $token in *'#'*) declares "$file" "${token#*#}" || fault "$page: $file declares no ${token#*#}" ;; esac
-    done < <(grep -oE '`[A-Za-z0-9_][A-Za-z0-9_./-]*/[A-Za-z0-9_./-]+\.(antt|rt|edit|md|rs|txt|sh|in|out)(#[^`]+)?`' "$page" | tr -d '`' | sort -u)
+    done < <(grep -oE '`[A-Za-z0-9_][A-Za-z0-9_./-]*/[A-Za-z0-9_./-]+(\.(antt|rt|edit|md|rs|txt|sh|in|out)(#[^`]+)?|/stdin|/stdout)`' "$page" | tr -d '`' | sort -u)
     while IFS= read -r link; do
         [ -e "$(dirname "$page")/$link" ] || fault "$page: a link to $link, which does not exist"
     done < <(grep -oE '\]\([^)#:]+\)' "$page" | sed 's/^](//; s/)$//' | sort -u)
@@ -40,4 +41,12 @@ calls=$(for source in crates/*/src/*.rt; do
 done | sort)
 listed=$(sed -nE 's/^\| `([a-z0-9_]+::[a-z0-9_]+)`.*/\1/p' docs/CALLS.md | sort)
 [ "$calls" = "$listed" ] || { fault 'docs/CALLS.md does not list exactly the public calls:'; diff <(echo "$listed") <(echo "$calls") >&2 || true; }
+
+uses=$(sed 's/#.*//' crates.txt | sed -nE 's/^([a-z0-9_]+): *(.*)$/\1: \2/p' | sed 's/ *$//' | sort)
+said=$(sed -nE 's/^\| `([a-z0-9_]+)` \| uses ([^|]*) \|.*/\1: \2/p' docs/ARCHITECTURE.md | sed 's/: nothing$/:/; s/`//g; s/,//g' | sort)
+[ "$uses" = "$said" ] || { fault 'docs/ARCHITECTURE.md does not say what crates.txt says:'; diff <(echo "$said") <(echo "$uses") >&2 || true; }
+
+for source in crates/*/src/*.rt; do
+    awk -v f="$source" '/^ *pub fn/ { name = $0; inside = 1 } /^ *\{$/ { inside = 0 } inside && /^ *requires/ { print f ": " name; bad = 1 } END { exit bad }' "$source" || fault 'a public function has a requires'
+done
 exit "$failed"

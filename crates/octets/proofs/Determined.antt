@@ -7,7 +7,7 @@ use borrow.Author.Tests.{le-ltb}
 use lib.ListN.{length, drop}
 use Rattle.refusals.specs.Refusal.{absent, distinct, first, lent, ThenAndOnlyThen}
 use Rattle.refusals.proofs.Laws.{lent-refused, then-and-only-then}
-use Rattle.octets.specs.Bits.{bitAt, bitOf, part, octet, size, stored}
+use Rattle.octets.specs.Bits.{bitOf, firstBits, size, stored}
 use Rattle.octets.specs.Cut.{CutCall, cutOrder}
 use Rattle.octets.proofs.Stored.{lent-stored}
 
@@ -15,7 +15,7 @@ pub size-determined : (count r r′ : ℕ) → r ≡ size count → r′ ≡ siz
 size-determined count r r′ is is′ = is ∙ sym is′
 
 pub first-bits-determined : (whole count r r′ : ℕ)
-    → r ≡ octet (part (bitAt 8 whole) 0 count) 0 → r′ ≡ octet (part (bitAt 8 whole) 0 count) 0 → r ≡ r′
+    → r ≡ firstBits whole count → r′ ≡ firstBits whole count → r ≡ r′
 first-bits-determined whole count r r′ is is′ = is ∙ sym is′
 
 module _ {source : List ℕ} {start count : ℕ} {before : List ℕ} {refusal : ℕ} {after : List ℕ} (call : CutCall source start count before refusal after) where

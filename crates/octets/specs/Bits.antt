@@ -27,6 +27,10 @@ number bit (suc n) = number bit n * 2 + bit n
 unfoldable pub octet : (ℕ → ℕ) → ℕ → ℕ
 octet bit k = number (λ j. bit (k * 8 + j)) 8
 
+-- an octet with its first n bits, and zero for each bit after them
+abbrev pub firstBits : ℕ → ℕ → ℕ
+firstBits whole n = octet (part (bitAt 8 whole) 0 n) 0
+
 -- the list f 0, f 1, .. of n elements
 unfoldable pub listed : (ℕ → ℕ) → ℕ → List ℕ
 listed f zero = []

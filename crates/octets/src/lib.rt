@@ -2,7 +2,7 @@
 ghost use mathlib.Core.Path.{_≡_};
 ghost use Prim.Native.Nat.{ℕ, _+_, _^_, _<_};
 ghost use lib.ListN.{getD};
-ghost use Rattle.octets.specs.Bits.{bitAt, bitOf, part, number, octet, size as Bits·size};
+ghost use Rattle.octets.specs.Bits.{bitOf, number, firstBits, size as Bits·size};
 ghost use Rattle.octets.specs.Cut.{CutCall};
 
 // How many octets hold `count` bits.
@@ -14,7 +14,7 @@ pub fn size(count: u32) -> usize
 
 // The octet with its first `count` bits, and zero for each bit after them. A count of 8 or more keeps all.
 pub fn first_bits(whole: u8, count: usize) -> u8
-    ensures { λ r. ⌜ r ≡ octet (part (bitAt 8 whole) 0 count) 0 ⌝ }
+    ensures { λ r. ⌜ r ≡ firstBits whole count ⌝ }
 {
     if 8 <= count {
         return whole;
