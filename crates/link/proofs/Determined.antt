@@ -114,6 +114,11 @@ module _ {w : ℕ} {receiver : Receiver} {octets before : List ℕ} {refusal num
     call .output-is ∙ lent-refused refusal (ciphered (receiver .link) (numberOf w receiver octets) (payloadOf octets)) before refused,
   )
 
+  -- and hands out no number but with 11 and 4
+  pub open-refused-number : (refusal ≡ 0 → ⊥) → (refusal ≡ 11 → ⊥) → (refusal ≡ 4 → ⊥) → number ≡ 0
+  unfolding givesNumber
+  open-refused-number refused not-repeat not-room = call .number-is ∙ simp (ne-eqb refusal 0 refused, ne-eqb refusal 11 not-repeat, ne-eqb refusal 4 not-room)
+
   pub open-refusals : ThenAndOnlyThen (openOrder w receiver octets before) refusal
   unfolding openOrder lookOrder candidateOrder distinct absent
   open-refusals = then-and-only-then (openOrder w receiver octets before) tt refusal (call .refusal-is)

@@ -73,14 +73,14 @@ receiver-says w receiver h = both _ _ h
 
 -- ---- the answers
 
--- the rows after those of the look, and after that of the header
-abbrev roomOrder : List ℕ → List ℕ → List Row
-roomOrder octets before = record { number = 4; holds = ltb (length before) (length (payloadOf octets)) } ∷ []
+-- the rows after those of the candidate, and after those of the look
+abbrev afterCandidate : List ℕ → List ℕ → List Row
+afterCandidate octets before = record { number = 4; holds = ltb (length before) (length (payloadOf octets)) } ∷ []
 
-abbrev headerOrder : ℕ → Receiver → List ℕ → List ℕ → List Row
-headerOrder w receiver octets before =
+abbrev afterLook : ℕ → Receiver → List ℕ → List ℕ → List Row
+afterLook w receiver octets before =
     record { number = 8; holds = not (isOfLink (receiver .link) octets) } ∷
-    (candidateOrder w (receiver .numbering) (headerOf octets .sent) ++ roomOrder octets before)
+    (candidateOrder w (receiver .numbering) (headerOf octets .sent) ++ afterCandidate octets before)
 
 module _ (w : ℕ) (receiver : Receiver) (octets before : List ℕ) where
   -- a refusal k changes nothing
@@ -124,9 +124,9 @@ module _ (w : ℕ) (receiver : Receiver) (octets before : List ℕ) where
   module _ (good : isReceiver w receiver ≡ true) where
     -- past the first row the look decides, and then the rest
     past-state : first (openOrder w receiver octets before)
-        ≡ cond (eqb (first (lookOrder octets)) 0) (first (headerOrder w receiver octets before)) (first (lookOrder octets))
+        ≡ cond (eqb (first (lookOrder octets)) 0) (first (afterLook w receiver octets before)) (first (lookOrder octets))
     unfolding first openOrder lookOrder distinct absent
-    past-state = simp good (first-append (lookOrder octets) (headerOrder w receiver octets before) tt)
+    past-state = simp good (first-append (lookOrder octets) (afterLook w receiver octets before) tt)
 
     pub open-looked : (first (lookOrder octets) ≡ 0 → ⊥) → first (openOrder w receiver octets before) ≡ first (lookOrder octets)
     open-looked refused = past-state ∙ rw (ne-eqb _ _ refused)
@@ -143,7 +143,7 @@ module _ (w : ℕ) (receiver : Receiver) (octets before : List ℕ) where
             (cond (ltb (length before) (length (payloadOf octets))) 4 0)
             (first (candidateOrder w (receiver .numbering) (headerOf octets .sent)))
         unfolding first candidateOrder distinct absent
-        past-header = past-state ∙ simp (eq-eqb _ _ nothing, ours) (first-append (candidateOrder w (receiver .numbering) (headerOf octets .sent)) (roomOrder octets before) tt)
+        past-header = past-state ∙ simp (eq-eqb _ _ nothing, ours) (first-append (candidateOrder w (receiver .numbering) (headerOf octets .sent)) (afterCandidate octets before) tt)
 
         pub open-candidate : (first (candidateOrder w (receiver .numbering) (headerOf octets .sent)) ≡ 0 → ⊥)
             → first (openOrder w receiver octets before) ≡ first (candidateOrder w (receiver .numbering) (headerOf octets .sent))

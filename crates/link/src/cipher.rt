@@ -49,11 +49,12 @@ pub(crate) fn cipher(link: Link, number: u32, source: &[u8], output: &mut [u8])
     ensures { λ _. ⌜ now (output .exit) ≡ ciphered link number (now (source .entry)) ++ drop (length (now (source .entry))) (now (output .entry)) ⌝ }
 {
     let key = link.key;
+    let direction = link.direction;
     let mut stream = room();
     keystreams::gea4(
         &key,
         input(link.iov, link.sapi, number),
-        link.direction,
+        direction,
         source.len() as u32,
         &mut stream,
     );
