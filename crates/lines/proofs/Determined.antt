@@ -2,7 +2,7 @@
 -- Assumes nothing.
 use Prim.Native.Nat.{ℕ, _≤_}
 use mathlib.Core.Path.{_≡_, sym, ap, _∙_}
-use mathlib.Core.Bool.{Bool, true, cond}
+use mathlib.Core.Bool.{Bool, true, false, cond}
 use mathlib.Core.List.{List, []}
 use borrow.Author.Tests.{le-leb}
 use lib.Dec.{leb}
@@ -25,6 +25,12 @@ pub number-read : {base most : ℕ} {text : List ℕ} {ok : Bool} {value : ℕ}
     → NumberCall base most text ok value → ok ≡ true → (isNumber base most text ≡ true) × (value ≡ numberOf base text)
 number-read {base} {text = text} call done =
     (sym (call .ok-is) ∙ done, call .value-is ∙ ap (λ (b : Bool). cond b (numberOf base text) 0) done)
+
+-- what is not put changes no octet
+pub put-refused-keeps : {allowed : Bool} {text before : List ℕ} {ok : Bool} {count : ℕ} {after : List ℕ}
+    → PutCall allowed text before ok count after → ok ≡ false → after ≡ before
+unfolding front
+put-refused-keeps {text = text} {before = before} call refused = call .output-is ∙ ap (λ (b : Bool). front (cond b text []) before) refused
 
 -- `octets_of_hex`, `hex_of_octets`, `decimal_of_number` and `put_text`
 pub put-determined : {allowed : Bool} {text before : List ℕ} {ok ok′ : Bool} {count count′ : ℕ} {after after′ : List ℕ}

@@ -8,7 +8,10 @@ use lib.Dec.{eqb}
 use Rattle.refusals.specs.Refusal.{absent, distinct, ThenAndOnlyThen}
 use Rattle.refusals.proofs.Laws.{then-and-only-then}
 use Rattle.numbering.specs.declared.Numbering.{Numbering}
-use Rattle.numbering.specs.Numbering.{isGood, candidate, accepted, candidateOrder, numberOrder, NumberCall}
+use Rattle.numbering.specs.Numbering.{start, isGood, candidate, accepted, candidateOrder, numberOrder, NumberCall}
+
+pub start-determined : (state state′ : Numbering) → state ≡ start → state′ ≡ start → state ≡ state′
+start-determined state state′ is is′ = is ∙ sym is′
 
 pub is-good-determined : (w : ℕ) (state : Numbering) (r r′ : Bool) → r ≡ isGood w state → r′ ≡ isGood w state → r ≡ r′
 is-good-determined w state r r′ is is′ = is ∙ sym is′
