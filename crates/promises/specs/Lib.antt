@@ -1,0 +1,5 @@
+pub mod BitForBit
+pub mod Calls
+pub mod Bench
+pub mod Promise3
+pub mod Examples
