@@ -1,6 +1,6 @@
 #!/usr/bin/env bash
-# Fails when a page names a file or a name that does not exist, when docs/CALLS.md does not list exactly the public calls, when
-# docs/ARCHITECTURE.md does not say what crates.txt says, or when a public function has a `requires`.
+# Fails when a page names a file or a name that does not exist, when docs/CALLS.md or the list that promises 1 and 2 speak of does not have exactly
+# the public calls, when docs/ARCHITECTURE.md does not say what crates.txt says, or when a public function has a `requires`.
 # On the pages, `crate/folder/File.ext#name` is a name in a file under crates/, and `a/path.ext` a file.
 set -euo pipefail
 top=$(cd "$(dirname "$0")/.." && pwd -P)
@@ -41,6 +41,14 @@ calls=$(for source in crates/*/src/*.rt; do
 done | sort)
 listed=$(sed -nE 's/^\| `([a-z0-9_]+::[a-z0-9_]+)`.*/\1/p' docs/CALLS.md | sort)
 [ "$calls" = "$listed" ] || { fault 'docs/CALLS.md does not list exactly the public calls:'; diff <(echo "$listed") <(echo "$calls") >&2 || true; }
+
+# In that list a comment with the call's name stands before its entry.
+promised=$(sed -nE 's/^-- ([a-z0-9_]+::[a-z0-9_]+)$/\1/p' crates/promises/specs/Calls.antt | sort)
+[ "$calls" = "$promised" ] || { fault 'the promises do not speak of exactly the public calls:'; diff <(echo "$promised") <(echo "$calls") >&2 || true; }
+# Each entry is in the list.
+while IFS= read -r entry; do
+    sed -n '/^publicCalls =/,/^$/p' crates/promises/specs/Calls.antt | grep -qE "(^| )$entry( |\$)" || fault "$entry is not among the publicCalls"
+done < <(grep -A 1 -E '^-- [a-z0-9_]+::[a-z0-9_]+$' crates/promises/specs/Calls.antt | sed -nE 's/^abbrev pub ([A-Za-z0-9]+) :.*/\1/p')
 
 uses=$(sed 's/#.*//' crates.txt | sed -nE 's/^([a-z0-9_]+): *(.*)$/\1: \2/p' | sed 's/ *$//' | sort)
 said=$(sed -nE 's/^\| `([a-z0-9_]+)` \| uses ([^|]*) \|.*/\1: \2/p' docs/ARCHITECTURE.md | sed 's/: nothing$/:/; s/`//g; s/,//g' | sort)

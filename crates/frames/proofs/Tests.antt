@@ -2,19 +2,15 @@
 -- Assumes nothing.
 use Prim.Native.Nat.{ℕ, _+_, _/_, _%_, _≤_}
 use mathlib.Core.Path.{_≡_, refl, sym}
-use mathlib.Core.Bool.{Bool, true, false, _&&_, false≢true}
+use mathlib.Core.Bool.{true, false}
 use mathlib.Core.List.{List, []}
 use borrow.Author.Tests.{le-leb, leb-true, eq-eqb, ne-eqb, eqb-true, not-false}
 use lib.ListN.{length, getD}
 use Rattle.refusals.specs.Refusal.{absent, distinct, first, rowAt}
 use Rattle.refusals.proofs.Laws.{then-and-only-then}
+use Rattle.refusals.proofs.Tests.{both}
 use Rattle.frames.specs.declared.Header.{Header}
 use Rattle.frames.specs.Frame.{pairAt, isWhole, hasZeroBits, isHeader, payloadOf, lookOrder, looked}
-
--- the halves of a test
-pub both : (a b : Bool) → (a && b) ≡ true → (a ≡ true) × (b ≡ true)
-both true b h = (refl, h)
-both false b h = absurd (false≢true h)
 
 -- L is within its limits, and the octets are L + 2
 pub record Whole (octets : List ℕ) : Type 0 where

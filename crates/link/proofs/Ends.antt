@@ -9,7 +9,7 @@ use lib.ListN.{length}
 use Rattle.refusals.specs.Refusal.{absent, distinct, first, rowAt}
 use Rattle.refusals.proofs.Laws.{then-and-only-then}
 use Rattle.keystreams.specs.Key.{isKey}
-use Rattle.frames.proofs.Tests.{both}
+use Rattle.refusals.proofs.Tests.{both}
 use Rattle.link.specs.Link.{inRange, endOrder}
 
 -- a service number and a direction that exist, as facts

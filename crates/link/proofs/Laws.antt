@@ -1,24 +1,23 @@
 -- The laws of a link for its callers: what a seal that is not refused leaves, and what opening the frame of a number answers, for every width.
 -- Assumes nothing.
-use Prim.Native.Nat.{ℕ, _+_, _-_, _%_, _≤_, _<_, max, zero-le}
+use Prim.Native.Nat.{ℕ, _+_, _-_, _%_, _≤_, _<_, zero-le}
 use native.Mathlib.Omega.{arith}
-use native.Mathlib.Decide.{decLe}
 use mathlib.Core.Path.{_≡_, refl, sym, ap, ap₂, _∙_}
-use mathlib.Core.Bool.{Bool, true, false, _||_, true≢false}
+use mathlib.Core.Bool.{true, false}
 use mathlib.Core.List.{List, _++_}
-use borrow.Author.Tests.{eq-eqb, le-leb, ltb-false, eqb-false, lt-ltb, not-false}
+use borrow.Author.Tests.{eq-eqb, le-leb, ltb-false, eqb-false, not-false}
 use lib.Dec.{eqb, ltb}
 use lib.ListN.{length, drop}
 use Rattle.refusals.specs.Refusal.{first, rowAt}
 use Rattle.refusals.proofs.Laws.{lent-done}
+use Rattle.refusals.proofs.Tests.{neither}
 use Rattle.keystreams.specs.Key.{prepared}
 use Rattle.frames.specs.Frame.{headerOf, payloadOf, lookOrder}
 use Rattle.frames.proofs.ReadBack.{header-of-frame, payload-of-frame, frame-looked}
 use Rattle.numbering.specs.declared.Numbering.{Numbering}
-use Rattle.numbering.specs.Numbering.{start, end, mark, isGood, isRepeat, candidate, accepted, candidateOrder, NumberCall}
+use Rattle.numbering.specs.Numbering.{start, end, isGood, isRepeat, candidate, accepted, candidateOrder, NumberCall}
 use Rattle.numbering.specs.Run.{MayArrive}
-use Rattle.numbering.proofs.State.{accepted-new, accepted-late}
-use Rattle.numbering.proofs.Masks.{mark-of-new, mark-set}
+use Rattle.numbering.proofs.Marks.{accepted-next, accepted-repeat}
 use Rattle.numbering.proofs.Candidate.{candidate-of}
 use Rattle.numbering.proofs.Arrival.{arrival-repeat, arrival-accepted}
 use Rattle.numbering.proofs.Good.{start-good, accepted-good}
@@ -51,10 +50,6 @@ receiver-opened w {key} {iov} {sapi} {direction} call =
     (call .receiver-is, ap (isReceiver w) (call .receiver-is) ∙ simp (range, start-good w))
 
 -- ---- sealing
-
-neither : (a b : Bool) → (a || b) ≡ false → (a ≡ false) × (b ≡ false)
-neither true b h = absurd (true≢false h)
-neither false b h = (refl, h)
 
 -- what a seal that is not refused had, and what it leaves
 pub record FrameSealed (sender : Sender) (payload before : List ℕ) (number size : ℕ) (later : Sender) (after : List ℕ) : Type 0 where
@@ -97,28 +92,6 @@ sealed-sender {sender} done =
     ap isSender (done .later-is) ∙ simp (sender-says sender (done .good) .0, le-leb (sender .next + 1) end (omega (arith, done .before-end)))
 
 -- ---- opening the frame of a number
-
--- V afterwards
-accepted-next : (w : ℕ) (state : Numbering) (n : ℕ) → accepted w state n .next ≡ max (state .next) (n + 1)
-accepted-next w state n = go (decLe (state .next) n)
-  where
-    go : Dec (state .next ≤ n) → accepted w state n .next ≡ max (state .next) (n + 1)
-    go (yes new) = rw (accepted-new w state n new) (omega arith)
-    go (no old) = rw (accepted-late w state n (omega arith)) (omega arith)
-
--- what was accepted is a repeat from then on
-accepted-repeat : (w : ℕ) → 0 < w → (state : Numbering) (n : ℕ) → isRepeat (accepted w state n) n ≡ true
-unfolding isRepeat
-accepted-repeat w wide state n = go (decLe (state .next) n)
-  where
-    go : Dec (state .next ≤ n) → isRepeat (accepted w state n) n ≡ true
-    go (yes new) =
-        let marked = mark-of-new w (state .marks) (n + 1 - state .next) wide (omega arith) in
-        rw (accepted-new w state n new)
-        (simp (lt-ltb n (n + 1) (omega arith)) (eq-eqb _ _ (ap (mark _) {x = n + 1 - 1 - n} {y = 0} (omega arith) ∙ marked)))
-    go (no old) =
-        let late : n < state .next = omega arith in
-        rw (accepted-late w state n late) (simp (lt-ltb n (state .next) late) (eq-eqb _ _ (mark-set (state .marks) (state .next - 1 - n))))
 
 module _ (w : ℕ) (narrow : w ≤ 512) (receiver : Receiver) (good : isReceiver w receiver ≡ true) (n : ℕ) (may : MayArrive w (receiver .numbering .next) n)
     (payload : List ℕ) (some : 1 ≤ length payload) (most : length payload ≤ 1520) (before : List ℕ) where

@@ -2,39 +2,21 @@
 -- Assumes nothing.
 use Prim.Native.Nat.{ℕ, _+_, _≤_, _<_}
 use mathlib.Core.Path.{_≡_, refl, sym, ap, _∙_}
-use mathlib.Core.Bool.{Bool, true, false, cond, not, _&&_, _||_}
+use mathlib.Core.Bool.{Bool, true, false, cond, not, _||_}
 use mathlib.Core.List.{List, [], _∷_, _++_}
 use borrow.Author.Tests.{eq-eqb, ne-eqb, lt-ltb, le-ltb}
-use lib.Dec.{T, eqb, leb, ltb}
+use lib.Dec.{eqb, leb, ltb}
 use lib.ListN.{length, getD, drop}
 use Rattle.refusals.specs.Refusal.{Row, absent, distinct, first}
-use Rattle.refusals.proofs.Tests.{and-left, and-right, by-test}
-use Rattle.refusals.proofs.Laws.{lent-refused, lent-done}
+use Rattle.refusals.proofs.Tests.{both}
+use Rattle.refusals.proofs.Laws.{first-append, lent-refused, lent-done}
 use Rattle.frames.specs.Frame.{headerOf, payloadOf, isWhole, hasZeroBits, lookOrder}
-use Rattle.frames.proofs.Tests.{both}
 use Rattle.numbering.specs.declared.Numbering.{Numbering}
 use Rattle.numbering.specs.Numbering.{end, isGood, isRepeat, raised, candidate, accepted, candidateOrder, numberOrder}
 use Rattle.link.specs.declared.Receiver.{Receiver}
 use Rattle.link.specs.Link.{inRange, ciphered}
 use Rattle.link.specs.Open.{isReceiver, isOfLink, numberOf, openOrder, givesNumber, OpenCall}
 use Rattle.link.proofs.Frames.{length-ciphered}
-
--- ---- orders one after the other
-
-unset : (b : Bool) → T (not b) → b ≡ false
-unset true h = absurd h
-unset false h = refl
-
--- of two orders the second decides where nothing of the first holds
-pub first-append : (rows more : List Row) → T (distinct rows) → first (rows ++ more) ≡ cond (eqb (first rows) 0) (first more) (first rows)
-unfolding first distinct absent
-first-append [] more d = refl
-first-append (row ∷ rest) more d =
-    let head : T (not (eqb (row .number) 0) && absent (row .number) rest) = and-left (not (eqb (row .number) 0) && absent (row .number) rest) (distinct rest) d in
-    let named : eqb (row .number) 0 ≡ false = unset (eqb (row .number) 0) (and-left (not (eqb (row .number) 0)) (absent (row .number) rest) head) in
-    by-test (row .holds) (first ((row ∷ rest) ++ more) ≡ cond (eqb (first (row ∷ rest)) 0) (first more) (first (row ∷ rest)))
-    (λ held. rw (held, named))
-    (λ passed. rw passed (first-append rest more (and-right (not (eqb (row .number) 0) && absent (row .number) rest) (distinct rest) d)))
 
 -- what holds of each number of three rows, and of 0, holds of the first of them that holds
 three : (P : ℕ → Type 0) (a b c : Bool) (x y z : ℕ) → P x → P y → P z → P 0 → P (cond a x (cond b y (cond c z 0)))

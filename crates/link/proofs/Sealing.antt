@@ -13,7 +13,7 @@ use lib.Seq.{take-at, drop-at, drop-drop}
 use Rattle.refusals.specs.Refusal.{first, lent}
 use Rattle.numbering.specs.Numbering.{end}
 use Rattle.frames.specs.Frame.{headerOctets, frame}
-use Rattle.frames.proofs.Tests.{both}
+use Rattle.refusals.proofs.Tests.{both}
 use Rattle.frames.proofs.ReadBack.{length-header}
 use Rattle.link.specs.declared.Sender.{Sender}
 use Rattle.link.specs.declared.Link.{Link}

@@ -1,13 +1,13 @@
 -- The marks mean what document 01 says, before and after each step, for every width from 1 on.
 -- Assumes nothing.
-use Prim.Native.Nat.{ℕ, _+_, _-_, _*_, _%_, _^_, _≤_, _<_, min}
+use Prim.Native.Nat.{ℕ, _+_, _-_, _*_, _%_, _^_, _≤_, _<_, min, max}
 use native.Mathlib.Omega.{arith}
 use native.Mathlib.Decide.{decLe, decLt}
 use native.Mathlib.Nat.{not-suc-le-zero, add-sub-cancel}
 use mathlib.Core.Path.{_≡_, refl, sym, ap, _∙_}
 use mathlib.Core.Bool.{Bool, true, false, cond, _&&_}
 use mathlib.Core.List.{List, [], _∷_}
-use borrow.Author.Tests.{lt-ltb, le-ltb}
+use borrow.Author.Tests.{eq-eqb, lt-ltb, le-ltb}
 use lib.Bits.{bitOr}
 use lib.Dec.{eqb, ltb}
 use lib.Pow.{pow-pos}
@@ -105,3 +105,25 @@ module _ (w : ℕ) where
         go : Dec (state .next ≤ n) → Means w (accepted w state n) (n ∷ history)
         go (yes new) = rw (accepted-new w state n new) (new-means wide n new)
         go (no late) = rw (accepted-late w state n (omega arith)) (late-means n (omega arith) inside)
+
+-- V afterwards
+pub accepted-next : (w : ℕ) (state : Numbering) (n : ℕ) → accepted w state n .next ≡ max (state .next) (n + 1)
+accepted-next w state n = go (decLe (state .next) n)
+  where
+    go : Dec (state .next ≤ n) → accepted w state n .next ≡ max (state .next) (n + 1)
+    go (yes new) = rw (accepted-new w state n new) (omega arith)
+    go (no old) = rw (accepted-late w state n (omega arith)) (omega arith)
+
+-- what was accepted is a repeat from then on
+pub accepted-repeat : (w : ℕ) → 0 < w → (state : Numbering) (n : ℕ) → isRepeat (accepted w state n) n ≡ true
+unfolding isRepeat
+accepted-repeat w wide state n = go (decLe (state .next) n)
+  where
+    go : Dec (state .next ≤ n) → isRepeat (accepted w state n) n ≡ true
+    go (yes new) =
+        let marked = mark-of-new w (state .marks) (n + 1 - state .next) wide (omega arith) in
+        rw (accepted-new w state n new)
+        (simp (lt-ltb n (n + 1) (omega arith)) (eq-eqb _ _ (ap (mark _) {x = n + 1 - 1 - n} {y = 0} (omega arith) ∙ marked)))
+    go (no old) =
+        let late : n < state .next = omega arith in
+        rw (accepted-late w state n late) (simp (lt-ltb n (state .next) late) (eq-eqb _ _ (mark-set (state .marks) (state .next - 1 - n))))

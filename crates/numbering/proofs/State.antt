@@ -4,10 +4,11 @@ use Prim.Native.Nat.{ℕ, _+_, _-_, _*_, _%_, _^_, _≤_, _<_, min}
 use native.Mathlib.Omega.{arith}
 use native.Mathlib.Nat.{pos-of-ne-zero}
 use mathlib.Core.Path.{_≡_, refl, sym}
-use mathlib.Core.Bool.{Bool, true, false, _&&_, _||_, false≢true}
+use mathlib.Core.Bool.{Bool, true, false, _||_, false≢true}
 use borrow.Author.Tests.{le-leb, lt-leb, leb-true, lt-ltb, ltb-true, eq-eqb, eqb-true, eqb-false, ne-eqb}
 use lib.Bits.{bitOr}
 use lib.Dec.{eqb, leb, ltb}
+use Rattle.refusals.proofs.Tests.{both}
 use Rattle.numbering.specs.declared.Numbering.{Numbering}
 use Rattle.numbering.specs.Numbering.{isGood, accepted, end, mark}
 
@@ -16,11 +17,6 @@ pub record Good (w : ℕ) (state : Numbering) : Type 0 where
   pub not-past : state .next ≤ end
   pub within : state .marks < 2 ^ min w (state .next)
   pub last-marked : 0 < state .next → mark (state .marks) 0 ≡ 1
-
--- the halves of a test
-pub both : (a b : Bool) → (a && b) ≡ true → (a ≡ true) × (b ≡ true)
-both true b h = (refl, h)
-both false b h = absurd (false≢true h)
 
 either : (a b : Bool) → (a ≡ false → b ≡ true) → (a || b) ≡ true
 either true b h = refl

@@ -5,13 +5,13 @@ use native.Mathlib.Nat.{not-suc-le-zero, le-of-suc-le-suc}
 use mathlib.Core.Path.{_≡_, refl, sym, _∙_, ap, subst}
 use mathlib.Core.Bool.{Bool, true, false, cond, not, _&&_}
 use mathlib.Core.List.{List, [], _∷_, _++_}
-use borrow.Author.Tests.{eq-eqb, ne-eqb, eqb-false}
+use borrow.Author.Tests.{eq-eqb, ne-eqb}
 use lib.Dec.{T, eqb}
-use lib.ListN.{length, getD, drop}
+use lib.ListN.{length, drop}
 use Rattle.refusals.proofs.Tests.{and-left, and-right, by-test}
 use Rattle.refusals.specs.Refusal.{Row, first, lent, rowAt, FirstAt, absent, distinct, ThenAndOnlyThen}
 
--- a test that failed
+-- a test that failed, as two numbers that are not the same
 apart : (m n : ℕ) → T (not (eqb m n)) → m ≡ n → ⊥
 apart m n h e = subst (λ (b : Bool). T (not b)) (eq-eqb m n e) h
 
@@ -105,6 +105,22 @@ then-and-only-then rows d answer e = record {
   each = λ k l. ((λ n. first-named rows d k l (sym e ∙ n)), (λ f. e ∙ named rows k l f));
   none = ((λ z. zero-none rows d (sym e ∙ z)), (λ h. e ∙ none-named rows h));
 }
+
+-- and as an equation
+unset : (b : Bool) → T (not b) → b ≡ false
+unset true h = absurd h
+unset false h = refl
+
+-- of two orders the second decides where nothing of the first holds
+pub first-append : (rows more : List Row) → T (distinct rows) → first (rows ++ more) ≡ cond (eqb (first rows) 0) (first more) (first rows)
+unfolding first distinct absent
+first-append [] more d = refl
+first-append (row ∷ rest) more d =
+    let head : T (not (eqb (row .number) 0) && absent (row .number) rest) = and-left (not (eqb (row .number) 0) && absent (row .number) rest) (distinct rest) d in
+    let named : eqb (row .number) 0 ≡ false = unset (eqb (row .number) 0) (and-left (not (eqb (row .number) 0)) (absent (row .number) rest) head) in
+    by-test (row .holds) (first ((row ∷ rest) ++ more) ≡ cond (eqb (first (row ∷ rest)) 0) (first more) (first (row ∷ rest)))
+    (λ held. rw (held, named))
+    (λ passed. rw passed (first-append rest more (and-right (not (eqb (row .number) 0) && absent (row .number) rest) (distinct rest) d)))
 
 -- a refusal keeps a lent buffer, and a success puts its result to the front
 pub lent-refused : (refusal : ℕ) (result before : List ℕ) → (refusal ≡ 0 → ⊥) → lent refusal result before ≡ before
