@@ -1,6 +1,9 @@
 -- The promises, proved.
-pub mod BitForBit
+pub mod Forms
+pub mod Ciphers
+pub mod Texts
 pub mod Calls
+pub mod BitForBit
 pub mod Frames
 pub mod Sender
 pub mod Receiver

@@ -1,9 +1,10 @@
 -- Every public call of every crate, each with the definition that its contract cites, in one list; and promises 1 and 2 as one statement each over
 -- that list. Assumes nothing.
-use Prim.Native.Nat.{ℕ, _≤_}
+use Prim.Native.Nat.{ℕ}
 use mathlib.Core.Path.{_≡_}
 use mathlib.Core.List.{List, [], _∷_}
-use Rattle.refusals.specs.Refusal.{Row, first, ThenAndOnlyThen}
+use lib.ListN.{length}
+use Rattle.refusals.specs.Refusal.{first}
 use Rattle.octets.specs.Bits.{size, firstBits}
 use Rattle.octets.specs.Cut.{cutOrder, CutCall}
 use Rattle.kasumi.specs.Kasumi.{kasumiOrder, KasumiCall}
@@ -20,57 +21,18 @@ use Rattle.link.specs.declared.Receiver.{Receiver}
 use Rattle.link.specs.Link.{endOrder}
 use Rattle.link.specs.Seal.{OpenSenderCall, sealOrder, SealCall}
 use Rattle.link.specs.Open.{OpenReceiverCall, openOrder, OpenCall}
-
--- a public call: all that goes in and all that comes back, lent octets and states among them; what the contract says of the two; the refusals in
--- their order, and the refusal that came back; and what is lent: the octets and the state before, and the same after
-pub record PublicCall : Type 1 where
-  pub Given : Type 0
-  pub Back : Type 0
-  pub says : Given → Back → Type 0
-  pub order : Given → List Row
-  pub refusal : Back → ℕ
-  pub Lent : Type 0
-  pub before : Given → Lent
-  pub after : Back → Lent
-
--- a call that cannot be refused and is lent nothing: what comes back is a function of what is given
-abbrev pub function : {Given Back : Type 0} → (Given → Back) → PublicCall
-function {Given} {Back} answer = record {
-  Given = Given;
-  Back = Back;
-  says = λ given back. back ≡ answer given;
-  order = λ given. [];
-  refusal = λ back. 0;
-  Lent = Unit {0};
-  before = λ given. tt;
-  after = λ back. tt;
-}
-
--- a call that is lent one output, and answers its refusal alone
-abbrev pub puts : {Given : Type 0} → (Given → List ℕ → List Row) → (Given → List ℕ → ℕ → List ℕ → Type 0) → PublicCall
-puts {Given} order says = record {
-  Given = record { inputs : Given; output : List ℕ };
-  Back = record { refusal : ℕ; output : List ℕ };
-  says = λ given back. says (given .inputs) (given .output) (back .refusal) (back .output);
-  order = λ given. order (given .inputs) (given .output);
-  refusal = λ back. back .refusal;
-  Lent = List ℕ;
-  before = λ given. given .output;
-  after = λ back. back .output;
-}
-
--- a call that is lent two outputs, and answers its refusal alone
-abbrev pub putsTwo : {Given : Type 0} → (Given → List ℕ → List ℕ → List Row) → (Given → List ℕ → List ℕ → ℕ → List ℕ → List ℕ → Type 0) → PublicCall
-putsTwo {Given} order says = record {
-  Given = record { inputs : Given; output1 : List ℕ; output2 : List ℕ };
-  Back = record { refusal : ℕ; output1 : List ℕ; output2 : List ℕ };
-  says = λ given back. says (given .inputs) (given .output1) (given .output2) (back .refusal) (back .output1) (back .output2);
-  order = λ given. order (given .inputs) (given .output1) (given .output2);
-  refusal = λ back. back .refusal;
-  Lent = List ℕ × List ℕ;
-  before = λ given. (given .output1, given .output2);
-  after = λ back. (back .output1, back .output2);
-}
+use Rattle.lines.specs.declared.Heard.{Heard}
+use Rattle.lines.specs.declared.Put.{Put}
+use Rattle.lines.specs.Digits.{numberOrder as Digits·numberOrder, NumberCall as Digits·NumberCall}
+use Rattle.lines.specs.Text.{roomOrder, hexOrder, hexOctets, hexText, decimalText}
+use Rattle.lines.specs.Hearing.{silence, tooLong, kept}
+use Rattle.requests.specs.declared.Told.{Told as Requests·Told}
+use Rattle.requests.specs.Answer.{largestAnswer}
+use Rattle.requests.specs.Stream.{HearCall as Requests·HearCall, FinishCall as Requests·FinishCall}
+use Rattle.walks.specs.declared.Walk.{Walk}
+use Rattle.walks.specs.declared.Told.{Told as Walks·Told}
+use Rattle.walks.specs.Walk.{room, header, start as Walks·start, HearCall as Walks·HearCall, FinishCall as Walks·FinishCall}
+use Rattle.promises.specs.PublicCall.{PublicCall, function, puts, putsTwo, putsText, All, Answers, Determined}
 
 -- octets::size
 abbrev pub sizeCall : PublicCall
@@ -223,31 +185,134 @@ openCall = record {
   after = λ back. (back .receiver, back .output);
 }
 
+-- lines::decimal
+abbrev pub decimalCall : PublicCall
+decimalCall = record {
+  Given = List ℕ;
+  Back = record { refusal : ℕ; value : ℕ };
+  says = λ given back. Digits·NumberCall 10 10 given (back .refusal) (back .value);
+  order = Digits·numberOrder 10 10;
+  refusal = λ back. back .refusal;
+  Lent = Unit {0};
+  before = λ given. tt;
+  after = λ back. tt;
+}
+
+-- lines::hexadecimal
+abbrev pub hexadecimalCall : PublicCall
+hexadecimalCall = record {
+  Given = List ℕ;
+  Back = record { refusal : ℕ; value : ℕ };
+  says = λ given back. Digits·NumberCall 16 16 given (back .refusal) (back .value);
+  order = Digits·numberOrder 16 16;
+  refusal = λ back. back .refusal;
+  Lent = Unit {0};
+  before = λ given. tt;
+  after = λ back. tt;
+}
+
+-- lines::octets_of_hex
+abbrev pub octetsOfHexCall : PublicCall
+octetsOfHexCall = putsText hexOrder hexOctets
+
+-- lines::hex_of_octets
+abbrev pub hexOfOctetsCall : PublicCall
+hexOfOctetsCall = putsText (λ given. roomOrder (length (hexText given))) hexText
+
+-- lines::decimal_of_number
+abbrev pub decimalOfNumberCall : PublicCall
+decimalOfNumberCall = putsText (λ given. roomOrder (length (decimalText given))) decimalText
+
+-- lines::put_text
+abbrev pub putTextCall : PublicCall
+putTextCall = putsText (λ given. roomOrder (length given)) (λ given. given)
+
+-- lines::silence
+abbrev pub silenceCall : PublicCall
+silenceCall = function {Given = Unit {0}} (λ given. silence)
+
+-- lines::too_long
+abbrev pub tooLongCall : PublicCall
+tooLongCall = function {Given = Unit {0}} (λ given. tooLong)
+
+-- lines::kept
+abbrev pub keptCall : PublicCall
+keptCall = function {Given = record { heard : Heard; octet : ℕ }} (λ given. kept (given .heard) (given .octet))
+
+-- requests::start
+abbrev pub requestsStartCall : PublicCall
+requestsStartCall = function {Given = Unit {0}} (λ given. silence)
+
+-- requests::hear
+abbrev pub requestsHearCall : PublicCall
+requestsHearCall = record {
+  Given = record { heard : Heard; octet : ℕ; output : List ℕ };
+  Back = record { told : Requests·Told; output : List ℕ };
+  says = λ given back. Requests·HearCall (given .heard) (given .octet) (given .output) (back .told) (back .output);
+  order = λ given. roomOrder largestAnswer (given .output);
+  refusal = λ back. back .told .refusal;
+  Lent = Heard × List ℕ;
+  before = λ given. (given .heard, given .output);
+  after = λ back. (back .told .heard, back .output);
+}
+
+-- requests::finish
+abbrev pub requestsFinishCall : PublicCall
+requestsFinishCall = record {
+  Given = record { heard : Heard; output : List ℕ };
+  Back = record { put : Put; output : List ℕ };
+  says = λ given back. Requests·FinishCall (given .heard) (given .output) (back .put) (back .output);
+  order = λ given. roomOrder largestAnswer (given .output);
+  refusal = λ back. back .put .refusal;
+  Lent = List ℕ;
+  before = λ given. given .output;
+  after = λ back. back .output;
+}
+
+-- walks::start
+abbrev pub walksStartCall : PublicCall
+walksStartCall = function {Given = Unit {0}} (λ given. Walks·start)
+
+-- walks::header
+abbrev pub walksHeaderCall : PublicCall
+walksHeaderCall = putsText {Given = Unit {0}} (λ given. roomOrder room) (λ given. header)
+
+-- walks::hear
+abbrev pub walksHearCall : PublicCall
+walksHearCall = record {
+  Given = record { walk : Walk; octet : ℕ; output : List ℕ };
+  Back = record { told : Walks·Told; output : List ℕ };
+  says = λ given back. Walks·HearCall (given .walk) (given .octet) (given .output) (back .told) (back .output);
+  order = λ given. roomOrder room (given .output);
+  refusal = λ back. back .told .refusal;
+  Lent = Walk × List ℕ;
+  before = λ given. (given .walk, given .output);
+  after = λ back. (back .told .walk, back .output);
+}
+
+-- walks::finish
+abbrev pub walksFinishCall : PublicCall
+walksFinishCall = record {
+  Given = record { walk : Walk; output : List ℕ };
+  Back = record { put : Put; output : List ℕ };
+  says = λ given back. Walks·FinishCall (given .walk) (given .output) (back .put) (back .output);
+  order = λ given. roomOrder room (given .output);
+  refusal = λ back. back .put .refusal;
+  Lent = List ℕ;
+  before = λ given. given .output;
+  after = λ back. back .output;
+}
+
 abbrev pub publicCalls : List PublicCall
 publicCalls =
     sizeCall ∷ firstBitsCall ∷ cutCall ∷
     kasumiCall ∷ kgcoreCall ∷ gsmCall ∷ ecsdCall ∷ gea4Call ∷
     startCall ∷ isGoodCall ∷ numberCall ∷
     lookCall ∷ lookRefusalCall ∷ headerOfCall ∷ putHeaderCall ∷
-    openSenderCall ∷ openReceiverCall ∷ sealCall ∷ openCall ∷ []
-
--- what holds of every one of the calls
-abbrev pub All : (PublicCall → Type 0) → List PublicCall → Type 0
-All P [] = Unit {0}
-All P (call ∷ rest) = P call × All P rest
-
--- promise 1 of a call: with each input it gives something; its refusal is 0 or a number of the table, 1 to 12; and where it is refused, each lent
--- octet and the state come back as they went in
-pub record Answers (call : PublicCall) : Type 0 where
-  pub gives : (given : call .Given) → record { back : call .Back; said : call .says given back }
-  pub from-the-table : (given : call .Given) (back : call .Back) → call .says given back → call .refusal back ≤ 12
-  pub keeps : (given : call .Given) (back : call .Back) → call .says given back → (call .refusal back ≡ 0 → ⊥) → call .after back ≡ call .before given
-
--- promise 2 of a call: what it does is what its definition says, and nothing else: two outcomes that the definition allows are one; and each refusal
--- is answered then and only then, when its cause is the first that holds
-pub record Determined (call : PublicCall) : Type 0 where
-  pub one-outcome : (given : call .Given) (back back′ : call .Back) → call .says given back → call .says given back′ → back ≡ back′
-  pub refuses : (given : call .Given) (back : call .Back) → call .says given back → ThenAndOnlyThen (call .order given) (call .refusal back)
+    openSenderCall ∷ openReceiverCall ∷ sealCall ∷ openCall ∷
+    decimalCall ∷ hexadecimalCall ∷ octetsOfHexCall ∷ hexOfOctetsCall ∷ decimalOfNumberCall ∷ putTextCall ∷ silenceCall ∷ tooLongCall ∷ keptCall ∷
+    requestsStartCall ∷ requestsHearCall ∷ requestsFinishCall ∷
+    walksStartCall ∷ walksHeaderCall ∷ walksHearCall ∷ walksFinishCall ∷ []
 
 abbrev pub Promise1 : Type 0
 Promise1 = All Answers publicCalls

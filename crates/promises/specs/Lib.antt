@@ -1,4 +1,5 @@
 pub mod BitForBit
+pub mod PublicCall
 pub mod Calls
 pub mod Bench
 pub mod Promise3
