@@ -117,21 +117,18 @@ stored-cleared f n m x rest bits some all cleared =
     (cleared ∙ octet-first f 0 n last (octet f last) bits (number-ext _ _ 8 (λ j _. ap f (omega arith))))
     ∙ ap (λ (k : ℕ). listed (octet (part f 0 n)) k ++ rest) (omega arith)
 
--- bit i of what is stored is bit i of the part: to cut a stored bit string is to cut the bit string itself
-pub bit-of-stored : (f : ℕ → ℕ) (s n i : ℕ) → i < n → ((j : ℕ) → f j < 2) → bitOf (stored f s n) i ≡ f (s + i)
-unfolding bitOf octet size
-bit-of-stored f s n i below bits =
-    ap (λ (x : ℕ). bitAt 8 x (i % 8)) (getD-stored f s n (i / 8) (omega arith))
+-- bit i of what is stored is bit i of the part, spare bits among them, whatever octets stand after
+pub part-of-stored : (f : ℕ → ℕ) (s n : ℕ) (rest : List ℕ) (i : ℕ) → i < 8 * size n → ((j : ℕ) → f j < 2) → bitOf (stored f s n ++ rest) i ≡ part f s n i
+unfolding bitOf octet
+part-of-stored f s n rest i below bits =
+    ap (λ (x : ℕ). bitAt 8 x (i % 8)) (List·getD-append (stored f s n) rest 0 (i / 8) (rw length-stored (omega arith)) ∙ getD-stored f s n (i / 8) (omega arith))
     ∙ bit-number (λ j. part f s n (i / 8 * 8 + j)) 8 (i % 8) (mod-lt i (lit< tt)) (λ j. part-lt f s n bits (i / 8 * 8 + j))
     ∙ ap (part f s n) (div-add-mod' i 8)
-    ∙ part-in f s n i below
 
--- the same where other octets stand after them
+-- so to cut a stored bit string is to cut the bit string itself
 pub bit-of-stored-front : (f : ℕ → ℕ) (s n : ℕ) (rest : List ℕ) (i : ℕ) → i < n → ((j : ℕ) → f j < 2) → bitOf (stored f s n ++ rest) i ≡ f (s + i)
-unfolding bitOf size
-bit-of-stored-front f s n rest i below bits =
-    ap (λ (x : ℕ). bitAt 8 x (i % 8)) (List·getD-append (stored f s n) rest 0 (i / 8) (rw length-stored (omega arith)))
-    ∙ bit-of-stored f s n i below bits
+unfolding size
+bit-of-stored-front f s n rest i below bits = part-of-stored f s n rest i (omega arith) bits ∙ part-in f s n i below
 
 -- what is cut out of a stored bit string is stored of the bit string itself
 pub stored-cut : (f : ℕ → ℕ) (s n : ℕ) (rest : List ℕ) (start count : ℕ) → start + count ≤ n → ((j : ℕ) → f j < 2)

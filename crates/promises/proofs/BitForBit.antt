@@ -1,38 +1,54 @@
 -- The keystreams are KGCORE's output, bit for bit. Assumes nothing.
-use Prim.Native.Nat.{ℕ, _+_, _*_, _<_}
+use Prim.Native.Nat.{ℕ, _+_, _*_, _≤_, _<_}
 use native.Mathlib.Omega.{arith}
-use mathlib.Core.Path.{_≡_, ap, _∙_}
-use mathlib.Core.List.{List}
-use lib.ListN.{drop}
+use mathlib.Core.Path.{_≡_, refl, sym, ap, subst, _∙_}
+use mathlib.Core.List.{List, _++_}
+use lib.ListN.{length, drop}
+use lib.Seq.{drop-at}
 use Rattle.refusals.specs.Refusal.{lent}
-use Rattle.octets.specs.Bits.{bitOf, size, stored}
-use Rattle.octets.proofs.Stored.{lent-stored, bit-of-stored-front}
+use Rattle.octets.specs.Bits.{bitOf, part, size, stored}
+use Rattle.octets.proofs.Stored.{length-stored, lent-stored, part-in, part-out, part-of-stored}
 use Rattle.kgcore.specs.declared.Inputs.{Inputs}
 use Rattle.kgcore.specs.Kgcore.{keyBit}
 use Rattle.kgcore.proofs.Laws.{keyBit-lt}
 use Rattle.keystreams.specs.Key.{prepared}
 use Rattle.keystreams.specs.A5.{gsmKind, ecsdKind, half, block1, block2, a5Inputs}
 use Rattle.keystreams.specs.Gea4.{gea4Output, gea4Inputs}
-use Rattle.promises.specs.BitForBit.{BitForBit}
+use Rattle.promises.specs.BitForBit.{HoldsBits, BitForBit}
 
--- where bits of KGCORE's output stand at the front of a lent output, each can be read there
-lent-bit : (key : List ℕ) (inputs : Inputs) (start count : ℕ) (before after : List ℕ) → after ≡ lent 0 (stored (keyBit key inputs) start count) before
-    → (i : ℕ) → i < count → bitOf after i ≡ keyBit key inputs (start + i)
-lent-bit key inputs start count before after is i within =
-    ap (λ (l : List ℕ). bitOf l i) (is ∙ lent-stored (keyBit key inputs) start count before)
-    ∙ bit-of-stored-front (keyBit key inputs) start count (drop (size count) before) i within (keyBit-lt key inputs)
+-- what a success leaves holds the bits
+module _ (key : List ℕ) (inputs : Inputs) (start count : ℕ) (before after : List ℕ) (is : after ≡ lent 0 (stored (keyBit key inputs) start count) before) where
+  whole : after ≡ stored (keyBit key inputs) start count ++ drop (size count) before
+  whole = is ∙ lent-stored (keyBit key inputs) start count before
+
+  bit-is : (i : ℕ) → i < 8 * size count → bitOf after i ≡ part (keyBit key inputs) start count i
+  bit-is i within =
+      ap (λ (l : List ℕ). bitOf l i) whole ∙ part-of-stored (keyBit key inputs) start count (drop (size count) before) i within (keyBit-lt key inputs)
+
+  holds-bits : (octets : ℕ) → size count ≡ octets → HoldsBits (keyBit key inputs) start count octets before after
+  unfolding size
+  holds-bits octets all =
+      subst (λ (o : ℕ). HoldsBits (keyBit key inputs) start count o before after) all
+      (record {
+        bits = λ i within. bit-is i (omega arith) ∙ part-in (keyBit key inputs) start count i within;
+        spare = λ i past within. bit-is i within ∙ part-out (keyBit key inputs) start count i past;
+        past =
+            ap (drop (size count)) whole
+            ∙ drop-at (stored (keyBit key inputs) start count) (drop (size count) before) (size count) (length-stored (keyBit key inputs) start count);
+      })
 
 pub bit-for-bit : BitForBit
-unfolding block1 block2 half gsmKind ecsdKind gea4Output
+unfolding block1 block2 half gsmKind ecsdKind gea4Output size
 bit-for-bit = record {
-  gsm = λ {key} {count} {before1} {before2} {block1} {block2} call i within. (
-    lent-bit (prepared key) (a5Inputs gsmKind count) 0 114 before1 block1 (call .output1-is) i within ∙ ap (keyBit (prepared key) (a5Inputs gsmKind count)) {x = 0 + i} {y = i} (omega arith),
-    lent-bit (prepared key) (a5Inputs gsmKind count) 114 114 before2 block2 (call .output2-is) i within,
+  kgcore = λ {key} {inputs} {cl} {octets} {before} {output} call enough fewest. holds-bits key inputs 0 cl before output (call .output-is) octets (omega arith);
+  gsm = λ {key} {count} {before1} {before2} {block1} {block2} call. (
+    holds-bits (prepared key) (a5Inputs gsmKind count) 0 114 before1 block1 (call .output1-is) 15 refl,
+    holds-bits (prepared key) (a5Inputs gsmKind count) 114 114 before2 block2 (call .output2-is) 15 refl,
   );
-  ecsd = λ {key} {count} {before1} {before2} {block1} {block2} call i within. (
-    lent-bit (prepared key) (a5Inputs ecsdKind count) 0 348 before1 block1 (call .output1-is) i within ∙ ap (keyBit (prepared key) (a5Inputs ecsdKind count)) {x = 0 + i} {y = i} (omega arith),
-    lent-bit (prepared key) (a5Inputs ecsdKind count) 348 348 before2 block2 (call .output2-is) i within,
+  ecsd = λ {key} {count} {before1} {before2} {block1} {block2} call. (
+    holds-bits (prepared key) (a5Inputs ecsdKind count) 0 348 before1 block1 (call .output1-is) 44 refl,
+    holds-bits (prepared key) (a5Inputs ecsdKind count) 348 348 before2 block2 (call .output2-is) 44 refl,
   );
-  gea4 = λ {key} {input} {direction} {m} {before} {output} call i within.
-      lent-bit (prepared key) (gea4Inputs input direction) 0 (8 * m) before output (call .output-is) i within ∙ ap (keyBit (prepared key) (gea4Inputs input direction)) {x = 0 + i} {y = i} (omega arith);
+  gea4 = λ {key} {input} {direction} {m} {before} {output} call.
+      holds-bits (prepared key) (gea4Inputs input direction) 0 (8 * m) before output (call .output-is) m (omega arith);
 }

@@ -1,12 +1,12 @@
--- Promises 1 and 2, of all public calls. Assumes nothing.
+-- What promises 1 and 2 ask of each public call holds of all of them. Assumes nothing.
 use mathlib.Core.List.{List, [], _∷_}
-use Rattle.promises.specs.PublicCall.{PublicCall, All, Answers, Determined}
-use Rattle.promises.specs.Calls.{publicCalls, Promise1, Promise2}
+use Rattle.promises.specs.PublicCall.{PublicCall, All}
+use Rattle.promises.specs.Calls.{publicCalls}
 use Rattle.promises.proofs.Forms.{Both, function-both}
-use Rattle.promises.proofs.Ciphers.{cut-both, kasumi-both, kgcore-both, gsm-both, ecsd-both, gea4-both, number-both, look-refusal-both, put-header-both, open-sender-both, open-receiver-both, seal-both, open-both}
-use Rattle.promises.proofs.Texts.{decimal-both, hexadecimal-both, octets-of-hex-both, hex-of-octets-both, decimal-of-number-both, put-text-both, requests-hear-both, requests-finish-both, walks-header-both, walks-hear-both, walks-finish-both}
+use Rattle.promises.proofs.CiphersAndLink.{cut-both, kasumi-both, kgcore-both, gsm-both, ecsd-both, gea4-both, number-both, look-refusal-both, put-header-both, open-sender-both, open-receiver-both, seal-both, open-both}
+use Rattle.promises.proofs.AboutText.{decimal-both, hexadecimal-both, octets-of-hex-both, hex-of-octets-both, decimal-of-number-both, put-text-both, requests-hear-both, requests-finish-both, walks-header-both, walks-hear-both, walks-finish-both}
 
-all-both : All Both publicCalls
+pub all-both : All Both publicCalls
 all-both = (
   function-both _,
   (
@@ -102,12 +102,6 @@ all-both = (
   ),
 )
 
-split : {P Q : PublicCall → Type 0} → ((call : PublicCall) → P call → Q call) → (calls : List PublicCall) → All P calls → All Q calls
+pub split : {P Q : PublicCall → Type 0} → ((call : PublicCall) → P call → Q call) → (calls : List PublicCall) → All P calls → All Q calls
 split take [] each = tt
 split take (call ∷ rest) each = (take call (each .0), split take rest (each .1))
-
-pub promise-1 : Promise1
-promise-1 = split {P = Both} {Q = Answers} (λ call both. both .answers) publicCalls all-both
-
-pub promise-2 : Promise2
-promise-2 = split {P = Both} {Q = Determined} (λ call both. both .determined) publicCalls all-both

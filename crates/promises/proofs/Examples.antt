@@ -25,7 +25,7 @@ use Rattle.link.proofs.Frames.{ciphered-twice, length-ciphered}
 use Rattle.link.proofs.Sealing.{seal-of, seal-0, seal-3-empty}
 use Rattle.link.proofs.Opening.{open-refused, open-looked}
 use Rattle.link.proofs.Laws.{open-new, open-repeat}
-use Rattle.promises.specs.Bench.{Sealed, withSealed, Seals, no-more, seal, IsOneOf, here, there, Events, arrival, refused, arrivals, InWindow}
+use Rattle.promises.specs.Bench.{SentFrame, withSealed, Seals, no-more, seal, IsOneOf, here, there, Events, arrival, refused, arrivals, InWindow}
 use Rattle.promises.specs.Examples.{RunOf, Misread}
 use Rattle.promises.proofs.Sender.{senders-half}
 
@@ -70,10 +70,10 @@ module _ (key : List ℕ) (iov sapi direction : ℕ) (valid : isKey key ≡ true
   abbrev room-for : List ℕ
   room-for = replicate (length payload + 6) 0
 
-  abbrev sealed-at : ℕ → Sealed
+  abbrev sealed-at : ℕ → SentFrame
   sealed-at n = record { number = n; payload = payload; octets = take (length payload + 6) (lent 0 (frameAt link n payload) room-for) }
 
-  abbrev sealed-from : ℕ → ℕ → List Sealed
+  abbrev sealed-from : ℕ → ℕ → List SentFrame
   sealed-from n zero = []
   sealed-from n (suc k) = sealed-at n ∷ sealed-from (suc n) k
 
@@ -104,7 +104,7 @@ module _ (key : List ℕ) (iov sapi direction : ℕ) (valid : isKey key ≡ true
   seals-nothing = seal-of (sender-at 0) [] room-for 3 (seal-3-empty (sender-at 0) [] room-for (good-sender 0 zero-le) refl) (refl, (refl, (refl, refl))) refl
 
   -- 962 frames, after a refused call
-  abbrev frames : List Sealed
+  abbrev frames : List SentFrame
   frames = sealed-from 0 962
 
   all-sealed : Seals (sender-at 0) frames (sender-at 962)

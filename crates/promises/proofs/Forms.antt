@@ -52,6 +52,7 @@ function-both answer = record {
     gives = λ given. record { back = answer given; said = refl };
     from-the-table = λ given back said. zero-le;
     keeps = λ given back said refused. absurd (refused refl);
+    zeros = λ given back said refused. tt;
   };
   determined = record {
     one-outcome = λ given back back′ said said′. said ∙ sym said′;
@@ -73,6 +74,7 @@ module _ {Given : Type 0} (order : Given → List ℕ → List Row) (says : Give
       };
       from-the-table = λ given back said. from-table (order (given .inputs) (given .output)) (is-order _ _) (named _ _ _ _ said);
       keeps = λ given back said refused. left _ _ _ _ said ∙ lent-refused (back .refusal) (result (given .inputs)) (given .output) refused;
+      zeros = λ given back said refused. tt;
     };
     determined = record {
       one-outcome = λ given back back′ said said′.
@@ -105,6 +107,7 @@ module _ {Given : Type 0} (order : Given → List ℕ → List ℕ → List Row)
           let one-kept = both .0 ∙ lent-refused (back .refusal) (one (given .inputs)) (given .output1) refused in
           let two-kept = both .1 ∙ lent-refused (back .refusal) (two (given .inputs)) (given .output2) refused in
           λ i. (one-kept i, two-kept i);
+      zeros = λ given back said refused. tt;
     };
     determined = record {
       one-outcome = λ given back back′ said said′.
@@ -130,6 +133,7 @@ module _ {Given : Type 0} (order : Given → List ℕ → List Row) (text : Give
           };
       from-the-table = λ given back said. from-table (order (given .inputs) (given .output)) (is-order _ _) (said .refusal-is);
       keeps = λ given back said refused. put-refused-keeps said refused .1;
+      zeros = λ given back said refused. (put-refused-keeps said refused .0, tt);
     };
     determined = record {
       one-outcome = λ given back back′ said said′.

@@ -3,28 +3,28 @@ use Prim.Native.Nat.{ℕ, _<_}
 use native.Mathlib.Omega.{arith}
 use mathlib.Core.Path.{_≡_, refl}
 use mathlib.Core.List.{List, [], _∷_}
-use Rattle.promises.specs.Bench.{Sealed, IsOneOf, here, there}
+use Rattle.promises.specs.Bench.{SentFrame, IsOneOf, here, there}
 use Rattle.promises.specs.Promise3.{AllAbove, Rising}
 
-module _ (P : Sealed → Type 0) where
-  abbrev pub Each : List Sealed → Type 0
+module _ (P : SentFrame → Type 0) where
+  abbrev pub Each : List SentFrame → Type 0
   Each [] = Unit {0}
   Each (frame ∷ rest) = P frame × Each rest
 
-  pub each-one : {frame : Sealed} {frames : List Sealed} → Each frames → IsOneOf frame frames → P frame
+  pub each-one : {frame : SentFrame} {frames : List SentFrame} → Each frames → IsOneOf frame frames → P frame
   each-one each here = each .0
   each-one each (there later) = each-one (each .1) later
 
 -- frames whose numbers are from n + 1 on are above n
-pub all-above : {P : Sealed → Type 0} (n : ℕ) (frames : List Sealed) → ((frame : Sealed) → P frame → n < frame .number) → Each P frames → AllAbove n frames
+pub all-above : {P : SentFrame → Type 0} (n : ℕ) (frames : List SentFrame) → ((frame : SentFrame) → P frame → n < frame .number) → Each P frames → AllAbove n frames
 all-above n [] says each = tt
 all-above n (frame ∷ rest) says each = (says frame (each .0), all-above n rest says (each .1))
 
-above-one : {n : ℕ} {frame : Sealed} {frames : List Sealed} → AllAbove n frames → IsOneOf frame frames → n < frame .number
+above-one : {n : ℕ} {frame : SentFrame} {frames : List SentFrame} → AllAbove n frames → IsOneOf frame frames → n < frame .number
 above-one above here = above .0
 above-one above (there later) = above-one (above .1) later
 
-pub told-by-number : {one other : Sealed} {frames : List Sealed} → Rising frames → IsOneOf one frames → IsOneOf other frames → one .number ≡ other .number → one ≡ other
+pub told-by-number : {one other : SentFrame} {frames : List SentFrame} → Rising frames → IsOneOf one frames → IsOneOf other frames → one .number ≡ other .number → one ≡ other
 told-by-number rising here here same = refl
 told-by-number rising here (there later) same = absurd (omega (arith, above-one (rising .0) later, same))
 told-by-number rising (there later) here same = absurd (omega (arith, above-one (rising .0) later, same))

@@ -1,9 +1,12 @@
 -- The promises, proved.
 pub mod Forms
-pub mod Ciphers
-pub mod Texts
+pub mod CiphersAndLink
+pub mod AboutText
 pub mod Calls
 pub mod BitForBit
+pub mod ByTheRule
+pub mod Promise1
+pub mod Promise2
 pub mod Frames
 pub mod Sender
 pub mod Receiver

@@ -19,7 +19,7 @@ use Rattle.link.specs.Link.{inRange, frameAt}
 use Rattle.link.specs.Open.{isReceiver, OpenCall}
 use Rattle.link.proofs.Determined.{open-determined, open-refused-keeps}
 use Rattle.link.proofs.Laws.{open-repeat, open-new}
-use Rattle.promises.specs.Bench.{Sealed, IsOneOf, Events, no-more, arrival, refused, arrivals, InWindow, IsFrame}
+use Rattle.promises.specs.Bench.{SentFrame, IsOneOf, Events, no-more, arrival, refused, arrivals, InWindow, IsFrame}
 use Rattle.promises.specs.Promise3.{AnsweredAs, AsPromised}
 
 -- a receiver stands on this link, and its numbering means these arrivals, all of them of numbers that may be sent
@@ -29,13 +29,13 @@ pub record Stands (w : ℕ) (link : Link) (receiver : Receiver) (earlier : List 
   pub before-end : aboveAll earlier ≤ end
 
 -- what an arrival is answered, and where the receiver then stands
-record Step (w : ℕ) (link : Link) (earlier : List ℕ) (frame : Sealed) (before : List ℕ) (refusal number size : ℕ) (later : Receiver) (after : List ℕ) : Type 0 where
-  answered : AnsweredAs earlier frame before refusal number size after
+record Step (w : ℕ) (link : Link) (earlier : List ℕ) (frame : SentFrame) (receiver later : Receiver) (before : List ℕ) (refusal number size : ℕ) (after : List ℕ) : Type 0 where
+  answered : AnsweredAs earlier frame receiver later before refusal number size after
   stands : Stands w link later (frame .number ∷ earlier)
 
 module _ (w : ℕ) (wide : 0 < w) (narrow : w ≤ 512) (link : Link) (range : inRange (link .sapi) (link .direction) ≡ true) where
   -- one arrival
-  module _ {receiver later : Receiver} {earlier : List ℕ} (at : Stands w link receiver earlier) {frame : Sealed} (is : IsFrame link frame)
+  module _ {receiver later : Receiver} {earlier : List ℕ} (at : Stands w link receiver earlier) {frame : SentFrame} (is : IsFrame link frame)
       (low : receiver .numbering .next ≤ frame .number + w) (high : frame .number + w < receiver .numbering .next + 512)
       {before after : List ℕ} (room : length (frame .payload) ≤ length before) {refusal number size : ℕ}
       (call : OpenCall w receiver (frame .octets) before refusal number size later after) where
@@ -59,41 +59,46 @@ module _ (w : ℕ) (wide : 0 < w) (narrow : w ≤ 512) (link : Link) (range : in
     unfolding aboveAll
     below = max-le (omega (arith, is .before-end)) (at .before-end)
 
-    step : Step w link earlier frame before refusal number size later after
+    step : Step w link earlier frame receiver later before refusal number size after
     step =
-        by-test (isRepeat (receiver .numbering) (frame .number)) (Step w link earlier frame before refusal number size later after)
+        by-test (isRepeat (receiver .numbering) (frame .number)) (Step w link earlier frame receiver later before refusal number size after)
         (λ marked.
         let same = open-determined its-call (open-repeat w narrow receiver good (frame .number) may (frame .payload) (is .some) (is .most) before marked) in
         let there : isAmong (frame .number) earlier ≡ true = sym repeat-is ∙ marked in
+        let later-means : Means w (later .numbering) (frame .number ∷ earlier)
+        = subst (λ (r : Receiver). Means w (r .numbering) (frame .number ∷ earlier)) (sym (same .3)) (again-means w (at .means) (frame .number) there) in
         record {
           answered = record {
             first-time = λ never. absurd (true≢false (sym there ∙ never));
-            again = λ h. record { refusal-is = same .0; number-is = same .1; size-is = same .2; output-is = same .4 };
+            again = λ h. record { refusal-is = same .0; number-is = same .1; size-is = same .2; output-is = same .4; state-is = same .3 };
+            next-is = later-means .next-is;
           };
           stands = record {
             link-is = ap (λ (r : Receiver). r .link) (same .3) ∙ at .link-is;
-            means = subst (λ (r : Receiver). Means w (r .numbering) (frame .number ∷ earlier)) (sym (same .3)) (again-means w (at .means) (frame .number) there);
+            means = later-means;
             before-end = below;
           };
         })
         (λ unmarked.
         let same = open-determined its-call (open-new w narrow receiver good (frame .number) may (frame .payload) (is .some) (is .most) before unmarked room) in
         let never : isAmong (frame .number) earlier ≡ false = sym repeat-is ∙ unmarked in
+        let later-means : Means w (later .numbering) (frame .number ∷ earlier)
+        = subst (λ (r : Receiver). Means w (r .numbering) (frame .number ∷ earlier)) (sym (same .3)) (accepted-means w (at .means) wide (frame .number) low) in
         record {
           answered = record {
             first-time = λ h. record { refusal-is = same .0; number-is = same .1; size-is = same .2; output-is = same .4 };
             again = λ there. absurd (true≢false (sym there ∙ never));
+            next-is = later-means .next-is;
           };
           stands = record {
             link-is = ap (λ (r : Receiver). r .link) (same .3) ∙ at .link-is;
-            means =
-                subst (λ (r : Receiver). Means w (r .numbering) (frame .number ∷ earlier)) (sym (same .3)) (accepted-means w (at .means) wide (frame .number) low);
+            means = later-means;
             before-end = below;
           };
         })
 
   -- all events, from a receiver that stands at what arrived earlier
-  pub receivers-half : {frames : List Sealed} → ((frame : Sealed) → IsOneOf frame frames → IsFrame link frame)
+  pub receivers-half : {frames : List SentFrame} → ((frame : SentFrame) → IsOneOf frame frames → IsFrame link frame)
       → {receiver last : Receiver} {earlier : List ℕ} → Stands w link receiver earlier
       → (events : Events w frames receiver last) → InWindow events
       → AsPromised earlier events × (last .numbering .next ≡ max (aboveAll (arrivals events)) (aboveAll earlier))

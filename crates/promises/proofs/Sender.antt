@@ -16,12 +16,12 @@ use Rattle.link.specs.Seal.{SealCall}
 use Rattle.link.proofs.Frames.{length-frame-at}
 use Rattle.link.proofs.Determined.{seal-refused-keeps}
 use Rattle.link.proofs.Laws.{FrameSealed, seal-done}
-use Rattle.promises.specs.Bench.{Sealed, withSealed, Seals, no-more, seal, IsFrame}
+use Rattle.promises.specs.Bench.{SentFrame, withSealed, Seals, no-more, seal, IsFrame}
 use Rattle.promises.specs.Promise3.{Rising, SendersHalf}
 use Rattle.promises.proofs.Frames.{Each, each-one, all-above}
 
 -- a frame is of the link, and its number is not below another
-record OfLink (link : Link) (low : ℕ) (frame : Sealed) : Type 0 where
+record OfLink (link : Link) (low : ℕ) (frame : SentFrame) : Type 0 where
   is-frame : IsFrame link frame
   not-below : low ≤ frame .number
 
@@ -42,7 +42,7 @@ module _ {sender later : Sender} {payload before after : List ℕ} {number size 
   }
 
 -- the frames with one more, or without it where it was refused
-with-sealed : (P : List Sealed → Type 0) (refusal : ℕ) (frame : Sealed) (rest : List Sealed) → (refusal ≡ 0 → P (frame ∷ rest)) → ((refusal ≡ 0 → ⊥) → P rest)
+with-sealed : (P : List SentFrame → Type 0) (refusal : ℕ) (frame : SentFrame) (rest : List SentFrame) → (refusal ≡ 0 → P (frame ∷ rest)) → ((refusal ≡ 0 → ⊥) → P rest)
     → P (withSealed refusal frame rest)
 unfolding withSealed
 with-sealed P refusal frame rest one none =
@@ -50,7 +50,7 @@ with-sealed P refusal frame rest one none =
     (λ zero. rw zero (one (eqb-true refusal 0 zero)))
     (λ other. rw other (none (eqb-false refusal 0 other)))
 
-each-of-link : (link : Link) (low : ℕ) {sender last : Sender} {frames : List Sealed} → sender .link ≡ link → low ≤ sender .next
+each-of-link : (link : Link) (low : ℕ) {sender last : Sender} {frames : List SentFrame} → sender .link ≡ link → low ≤ sender .next
     → Seals sender frames last → Each (OfLink link low) frames
 each-of-link link low same least no-more = tt
 each-of-link link low {sender} same least (seal {later = later} {payload = payload} {before = before} {after = after} {refusal = refusal} {number = number} {size = size} {rest = rest} call calls) =
@@ -68,7 +68,7 @@ each-of-link link low {sender} same least (seal {later = later} {payload = paylo
     let kept : later ≡ sender = seal-refused-keeps call not-done .2 in
     each-of-link link low (ap (λ (s : Sender). s .link) kept ∙ same) (omega (arith, ap (λ (s : Sender). s .next) kept, least)) calls)
 
-all-rising : {sender last : Sender} {frames : List Sealed} → Seals sender frames last → Rising frames
+all-rising : {sender last : Sender} {frames : List SentFrame} → Seals sender frames last → Rising frames
 all-rising no-more = tt
 all-rising {sender} (seal {later = later} {payload = payload} {before = before} {after = after} {refusal = refusal} {number = number} {size = size} {rest = rest} call calls) =
     with-sealed Rising refusal (record { number = number; payload = payload; octets = take size after }) rest
@@ -78,7 +78,7 @@ all-rising {sender} (seal {later = later} {payload = payload} {before = before} 
     (all-above number rest (λ frame of. omega (arith, of .not-below)) (each-of-link (later .link) (number + 1) refl (omega (arith, moved)) calls), all-rising calls))
     (λ not-done. all-rising calls)
 
-pub senders-half : {sender last : Sender} {frames : List Sealed} → Seals sender frames last → SendersHalf (sender .link) frames
+pub senders-half : {sender last : Sender} {frames : List SentFrame} → Seals sender frames last → SendersHalf (sender .link) frames
 senders-half {sender} {frames = frames} calls = record {
   each-is = λ one. each-one (OfLink (sender .link) 0) (each-of-link (sender .link) 0 refl (omega arith) calls) one .is-frame;
   rising = all-rising calls;

@@ -1,24 +1,36 @@
--- The first sentence of promise 2, bit for bit: what the calls leave in a lent output is KGCORE's output, at every bit (document 004, sections 5 to 7).
+-- The first sentence of promise 2, bit for bit: what a keystream call leaves in a lent output is KGCORE's output (document 004, sections 4 to 7).
 -- Assumes nothing.
-use Prim.Native.Nat.{ℕ, _+_, _*_, _<_}
+use Prim.Native.Nat.{ℕ, _+_, _*_, _≤_, _<_}
 use mathlib.Core.Path.{_≡_}
 use mathlib.Core.List.{List}
+use lib.ListN.{drop}
 use Rattle.octets.specs.Bits.{bitOf}
-use Rattle.kgcore.specs.Kgcore.{keyBit}
+use Rattle.kgcore.specs.declared.Inputs.{Inputs}
+use Rattle.kgcore.specs.Kgcore.{keyBit, KgcoreCall}
 use Rattle.keystreams.specs.Key.{prepared}
 use Rattle.keystreams.specs.A5.{gsmKind, ecsdKind, a5Inputs, A5Call}
 use Rattle.keystreams.specs.Gea4.{gea4Inputs, Gea4Call}
 
+-- so many bits of a bit string, from bit `start` on, stand in the first octets of a buffer; the spare bits after them are zero; and the octets past
+-- them are as they were
+pub record HoldsBits (bit : ℕ → ℕ) (start count octets : ℕ) (before after : List ℕ) : Type 0 where
+  pub bits : (i : ℕ) → i < count → bitOf after i ≡ bit (start + i)
+  pub spare : (i : ℕ) → count ≤ i → i < 8 * octets → bitOf after i ≡ 0
+  pub past : drop octets after ≡ drop octets before
+
 pub record BitForBit : Type 0 where
-  -- GSM: BLOCK1 is bits 0 to 113 of KGCORE's output, BLOCK2 bits 114 to 227
+  -- KGCORE: the first CL bits, in CL / 8 octets, rounded up
+  pub kgcore : {key : List ℕ} {inputs : Inputs} {cl octets : ℕ} {before output : List ℕ} → KgcoreCall key inputs cl before 0 output
+      → cl ≤ 8 * octets → 8 * octets < cl + 8
+      → HoldsBits (keyBit key inputs) 0 cl octets before output
+  -- GSM: BLOCK1 is bits 0 to 113, BLOCK2 bits 114 to 227, in 15 octets each
   pub gsm : {key : List ℕ} {count : ℕ} {before1 before2 block1 block2 : List ℕ} → A5Call gsmKind key count before1 before2 0 block1 block2
-      → (i : ℕ) → i < 114
-      → (bitOf block1 i ≡ keyBit (prepared key) (a5Inputs gsmKind count) i) × (bitOf block2 i ≡ keyBit (prepared key) (a5Inputs gsmKind count) (114 + i))
-  -- ECSD: BLOCK1 is bits 0 to 347, BLOCK2 bits 348 to 695
+      → HoldsBits (keyBit (prepared key) (a5Inputs gsmKind count)) 0 114 15 before1 block1
+      × HoldsBits (keyBit (prepared key) (a5Inputs gsmKind count)) 114 114 15 before2 block2
+  -- ECSD: BLOCK1 is bits 0 to 347, BLOCK2 bits 348 to 695, in 44 octets each
   pub ecsd : {key : List ℕ} {count : ℕ} {before1 before2 block1 block2 : List ℕ} → A5Call ecsdKind key count before1 before2 0 block1 block2
-      → (i : ℕ) → i < 348
-      → (bitOf block1 i ≡ keyBit (prepared key) (a5Inputs ecsdKind count) i) × (bitOf block2 i ≡ keyBit (prepared key) (a5Inputs ecsdKind count) (348 + i))
-  -- GEA4: the M octets are bits 0 to 8M - 1
+      → HoldsBits (keyBit (prepared key) (a5Inputs ecsdKind count)) 0 348 44 before1 block1
+      × HoldsBits (keyBit (prepared key) (a5Inputs ecsdKind count)) 348 348 44 before2 block2
+  -- GEA4: bits 0 to 8M - 1, in M octets
   pub gea4 : {key : List ℕ} {input direction m : ℕ} {before output : List ℕ} → Gea4Call key input direction m before 0 output
-      → (i : ℕ) → i < 8 * m
-      → bitOf output i ≡ keyBit (prepared key) (gea4Inputs input direction) i
+      → HoldsBits (keyBit (prepared key) (gea4Inputs input direction)) 0 (8 * m) m before output

@@ -1,8 +1,10 @@
--- Every public call of every crate, each with the definition that its contract cites, in one list; and promises 1 and 2 as one statement each over
--- that list. Assumes nothing.
+-- Every public call of every crate, each with the definition that its contract cites, in one list. That each function meets its entry is proved in
+-- src/. The width of the link's window is 32. Assumes nothing.
 use Prim.Native.Nat.{ℕ}
 use mathlib.Core.Path.{_≡_}
+use mathlib.Core.Bool.{cond, _||_}
 use mathlib.Core.List.{List, [], _∷_}
+use lib.Dec.{eqb}
 use lib.ListN.{length}
 use Rattle.refusals.specs.Refusal.{first}
 use Rattle.octets.specs.Bits.{size, firstBits}
@@ -32,7 +34,7 @@ use Rattle.requests.specs.Stream.{HearCall as Requests·HearCall, FinishCall as
 use Rattle.walks.specs.declared.Walk.{Walk}
 use Rattle.walks.specs.declared.Told.{Told as Walks·Told}
 use Rattle.walks.specs.Walk.{room, header, start as Walks·start, HearCall as Walks·HearCall, FinishCall as Walks·FinishCall}
-use Rattle.promises.specs.PublicCall.{PublicCall, function, puts, putsTwo, putsText, All, Answers, Determined}
+use Rattle.promises.specs.PublicCall.{PublicCall, function, puts, putsTwo, putsText}
 
 -- octets::size
 abbrev pub sizeCall : PublicCall
@@ -56,6 +58,7 @@ kasumiCall = record {
   says = λ given back. KasumiCall (given .key) (given .block) (back .refusal) (back .block);
   order = λ given. kasumiOrder (given .key);
   refusal = λ back. back .refusal;
+  numbers = λ back. back .block ∷ [];
   Lent = Unit {0};
   before = λ given. tt;
   after = λ back. tt;
@@ -101,6 +104,7 @@ numberCall = record {
   says = λ given back. NumberCall 32 (given .numbering) (given .sent) (back .refusal) (back .number) (back .numbering);
   order = λ given. numberOrder 32 (given .numbering) (given .sent);
   refusal = λ back. back .refusal;
+  numbers = λ back. cond (eqb (back .refusal) 11) [] (back .number ∷ []);
   Lent = Numbering;
   before = λ given. given .numbering;
   after = λ back. back .numbering;
@@ -118,6 +122,7 @@ lookRefusalCall = record {
   says = λ given back. back ≡ first (lookOrder given);
   order = lookOrder;
   refusal = λ back. back;
+  numbers = λ back. [];
   Lent = Unit {0};
   before = λ given. tt;
   after = λ back. tt;
@@ -141,6 +146,7 @@ openSenderCall = record {
   says = λ given back. OpenSenderCall (given .key) (given .iov) (given .sapi) (given .direction) (back .refusal) (back .sender);
   order = λ given. endOrder (given .key) (given .sapi) (given .direction);
   refusal = λ back. back .refusal;
+  numbers = λ back. [];
   Lent = Unit {0};
   before = λ given. tt;
   after = λ back. tt;
@@ -154,6 +160,7 @@ openReceiverCall = record {
   says = λ given back. OpenReceiverCall (given .key) (given .iov) (given .sapi) (given .direction) (back .refusal) (back .receiver);
   order = λ given. endOrder (given .key) (given .sapi) (given .direction);
   refusal = λ back. back .refusal;
+  numbers = λ back. [];
   Lent = Unit {0};
   before = λ given. tt;
   after = λ back. tt;
@@ -167,6 +174,7 @@ sealCall = record {
   says = λ given back. SealCall (given .sender) (given .payload) (given .output) (back .refusal) (back .number) (back .size) (back .sender) (back .output);
   order = λ given. sealOrder (given .sender) (given .payload) (given .output);
   refusal = λ back. back .refusal;
+  numbers = λ back. back .number ∷ back .size ∷ [];
   Lent = Sender × List ℕ;
   before = λ given. (given .sender, given .output);
   after = λ back. (back .sender, back .output);
@@ -180,6 +188,7 @@ openCall = record {
   says = λ given back. OpenCall 32 (given .receiver) (given .frame) (given .output) (back .refusal) (back .number) (back .size) (back .receiver) (back .output);
   order = λ given. openOrder 32 (given .receiver) (given .frame) (given .output);
   refusal = λ back. back .refusal;
+  numbers = λ back. back .size ∷ cond (eqb (back .refusal) 11 || eqb (back .refusal) 4) [] (back .number ∷ []);
   Lent = Receiver × List ℕ;
   before = λ given. (given .receiver, given .output);
   after = λ back. (back .receiver, back .output);
@@ -193,6 +202,7 @@ decimalCall = record {
   says = λ given back. Digits·NumberCall 10 10 given (back .refusal) (back .value);
   order = Digits·numberOrder 10 10;
   refusal = λ back. back .refusal;
+  numbers = λ back. back .value ∷ [];
   Lent = Unit {0};
   before = λ given. tt;
   after = λ back. tt;
@@ -206,6 +216,7 @@ hexadecimalCall = record {
   says = λ given back. Digits·NumberCall 16 16 given (back .refusal) (back .value);
   order = Digits·numberOrder 16 16;
   refusal = λ back. back .refusal;
+  numbers = λ back. back .value ∷ [];
   Lent = Unit {0};
   before = λ given. tt;
   after = λ back. tt;
@@ -251,6 +262,7 @@ requestsHearCall = record {
   says = λ given back. Requests·HearCall (given .heard) (given .octet) (given .output) (back .told) (back .output);
   order = λ given. roomOrder largestAnswer (given .output);
   refusal = λ back. back .told .refusal;
+  numbers = λ back. back .told .written ∷ [];
   Lent = Heard × List ℕ;
   before = λ given. (given .heard, given .output);
   after = λ back. (back .told .heard, back .output);
@@ -264,6 +276,7 @@ requestsFinishCall = record {
   says = λ given back. Requests·FinishCall (given .heard) (given .output) (back .put) (back .output);
   order = λ given. roomOrder largestAnswer (given .output);
   refusal = λ back. back .put .refusal;
+  numbers = λ back. back .put .count ∷ [];
   Lent = List ℕ;
   before = λ given. given .output;
   after = λ back. back .output;
@@ -285,6 +298,7 @@ walksHearCall = record {
   says = λ given back. Walks·HearCall (given .walk) (given .octet) (given .output) (back .told) (back .output);
   order = λ given. roomOrder room (given .output);
   refusal = λ back. back .told .refusal;
+  numbers = λ back. back .told .written ∷ [];
   Lent = Walk × List ℕ;
   before = λ given. (given .walk, given .output);
   after = λ back. (back .told .walk, back .output);
@@ -298,6 +312,7 @@ walksFinishCall = record {
   says = λ given back. Walks·FinishCall (given .walk) (given .output) (back .put) (back .output);
   order = λ given. roomOrder room (given .output);
   refusal = λ back. back .put .refusal;
+  numbers = λ back. back .put .count ∷ [];
   Lent = List ℕ;
   before = λ given. given .output;
   after = λ back. back .output;
@@ -313,9 +328,3 @@ publicCalls =
     decimalCall ∷ hexadecimalCall ∷ octetsOfHexCall ∷ hexOfOctetsCall ∷ decimalOfNumberCall ∷ putTextCall ∷ silenceCall ∷ tooLongCall ∷ keptCall ∷
     requestsStartCall ∷ requestsHearCall ∷ requestsFinishCall ∷
     walksStartCall ∷ walksHeaderCall ∷ walksHearCall ∷ walksFinishCall ∷ []
-
-abbrev pub Promise1 : Type 0
-Promise1 = All Answers publicCalls
-
-abbrev pub Promise2 : Type 0
-Promise2 = All Determined publicCalls

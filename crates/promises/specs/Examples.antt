@@ -8,7 +8,7 @@ use Rattle.link.specs.declared.Sender.{Sender}
 use Rattle.link.specs.declared.Receiver.{Receiver}
 use Rattle.link.specs.Seal.{OpenSenderCall}
 use Rattle.link.specs.Open.{OpenReceiverCall, OpenCall}
-use Rattle.promises.specs.Bench.{Sealed, Seals, IsOneOf, Events, arrivals, InWindow}
+use Rattle.promises.specs.Bench.{SentFrame, Seals, IsOneOf, Events, arrivals, InWindow}
 
 -- a run of two newly opened ends that meets the hypotheses of promise 3, in which these numbers arrive, in this order
 pub record RunOf (w : ℕ) (key : List ℕ) (iov sapi direction : ℕ) (numbers : List ℕ) : Type 0 where
@@ -16,7 +16,7 @@ pub record RunOf (w : ℕ) (key : List ℕ) (iov sapi direction : ℕ) (numbers 
   pub sender-last : Sender
   pub receiver : Receiver
   pub receiver-last : Receiver
-  pub frames : List Sealed
+  pub frames : List SentFrame
   pub sender-opened : OpenSenderCall key iov sapi direction 0 sender
   pub receiver-opened : OpenReceiverCall key iov sapi direction 0 receiver
   pub sealed : Seals sender frames sender-last
@@ -27,7 +27,7 @@ pub record RunOf (w : ℕ) (key : List ℕ) (iov sapi direction : ℕ) (numbers 
 -- after a run, one of the sender's frames arrives that is numbered 512 - w above the next number, one more than the window allows: it is handed
 -- out, and under a number that is not its own
 pub record Misread {w : ℕ} {key : List ℕ} {iov sapi direction : ℕ} {numbers : List ℕ} (run : RunOf w key iov sapi direction numbers) : Type 0 where
-  pub frame : Sealed
+  pub frame : SentFrame
   pub before : List ℕ
   pub after : List ℕ
   pub number : ℕ

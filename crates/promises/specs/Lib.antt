@@ -1,6 +1,9 @@
-pub mod BitForBit
 pub mod PublicCall
 pub mod Calls
+pub mod BitForBit
+pub mod ByTheRule
+pub mod Promise1
+pub mod Promise2
 pub mod Bench
 pub mod Promise3
 pub mod Examples

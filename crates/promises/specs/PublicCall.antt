@@ -6,13 +6,15 @@ use Rattle.refusals.specs.Refusal.{Row, ThenAndOnlyThen}
 use Rattle.lines.specs.Text.{PutCall}
 
 -- a public call: all that goes in and all that comes back, lent octets and states among them; what the contract says of the two; the refusals in
--- their order, and the refusal that came back; and what is lent: the octets and the state before, and the same after
+-- their order, and the refusal that came back; every other number that comes back, but for the candidate where it is given with a refusal; and what
+-- is lent: the octets and the state before, and the same after. Keys, payloads and frames are lent to be read alone, and cannot be changed
 pub record PublicCall : Type 1 where
   pub Given : Type 0
   pub Back : Type 0
   pub says : Given → Back → Type 0
   pub order : Given → List Row
   pub refusal : Back → ℕ
+  pub numbers : Back → List ℕ
   pub Lent : Type 0
   pub before : Given → Lent
   pub after : Back → Lent
@@ -25,6 +27,7 @@ function {Given} {Back} answer = record {
   says = λ given back. back ≡ answer given;
   order = λ given. [];
   refusal = λ back. 0;
+  numbers = λ back. [];
   Lent = Unit {0};
   before = λ given. tt;
   after = λ back. tt;
@@ -38,6 +41,7 @@ puts {Given} order says = record {
   says = λ given back. says (given .inputs) (given .output) (back .refusal) (back .output);
   order = λ given. order (given .inputs) (given .output);
   refusal = λ back. back .refusal;
+  numbers = λ back. [];
   Lent = List ℕ;
   before = λ given. given .output;
   after = λ back. back .output;
@@ -51,6 +55,7 @@ putsText {Given} order text = record {
   says = λ given back. PutCall (order (given .inputs) (given .output)) (text (given .inputs)) (given .output) (back .refusal) (back .count) (back .output);
   order = λ given. order (given .inputs) (given .output);
   refusal = λ back. back .refusal;
+  numbers = λ back. back .count ∷ [];
   Lent = List ℕ;
   before = λ given. given .output;
   after = λ back. back .output;
@@ -64,20 +69,28 @@ putsTwo {Given} order says = record {
   says = λ given back. says (given .inputs) (given .output1) (given .output2) (back .refusal) (back .output1) (back .output2);
   order = λ given. order (given .inputs) (given .output1) (given .output2);
   refusal = λ back. back .refusal;
+  numbers = λ back. [];
   Lent = List ℕ × List ℕ;
   before = λ given. (given .output1, given .output2);
   after = λ back. (back .output1, back .output2);
 }
 
--- promise 1 of a call: with each input it gives something; its refusal is 0 or a number of the table, 1 to 12; and where it is refused, each lent
--- octet and the state come back as they went in
+-- numbers that are all 0
+abbrev pub AllZero : List ℕ → Type 0
+AllZero [] = Unit {0}
+AllZero (number ∷ rest) = (number ≡ 0) × AllZero rest
+
+-- promise 1 of a call: its definition allows an outcome for every input, so that the function, which always ends and meets it, always gives one;
+-- the refusal is 0 or a number of the table, 1 to 12; and where it is refused, each lent octet and the state come back as they went in, and every
+-- other number is 0
 pub record Answers (call : PublicCall) : Type 0 where
   pub gives : (given : call .Given) → record { back : call .Back; said : call .says given back }
   pub from-the-table : (given : call .Given) (back : call .Back) → call .says given back → call .refusal back ≤ 12
   pub keeps : (given : call .Given) (back : call .Back) → call .says given back → (call .refusal back ≡ 0 → ⊥) → call .after back ≡ call .before given
+  pub zeros : (given : call .Given) (back : call .Back) → call .says given back → (call .refusal back ≡ 0 → ⊥) → AllZero (call .numbers back)
 
--- promise 2 of a call: what it does is what its definition says, and nothing else: two outcomes that the definition allows are one; and each refusal
--- is answered then and only then, when its cause is the first that holds
+-- promise 2 of a call: its definition leaves nothing open, so that the function, which meets it, does that and nothing else; and each refusal is
+-- answered then and only then, when its cause is the first that holds
 pub record Determined (call : PublicCall) : Type 0 where
   pub one-outcome : (given : call .Given) (back back′ : call .Back) → call .says given back → call .says given back′ → back ≡ back′
   pub refuses : (given : call .Given) (back : call .Back) → call .says given back → ThenAndOnlyThen (call .order given) (call .refusal back)

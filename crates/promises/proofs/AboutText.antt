@@ -9,7 +9,7 @@ use Rattle.refusals.specs.Refusal.{first, lent, absent, distinct}
 use Rattle.lines.specs.Digits.{numberOf, numberOrder}
 use Rattle.lines.specs.Text.{roomOrder, hexOrder, hexOctets, hexText, decimalText}
 use Rattle.lines.specs.Hearing.{Standing, hearing, said, lastSaid}
-use Rattle.lines.proofs.Determined.{number-determined}
+use Rattle.lines.proofs.Determined.{number-determined, number-refused}
 use Rattle.requests.specs.Answer.{largestAnswer}
 use Rattle.requests.specs.Stream.{streamRules, standing}
 use Rattle.requests.proofs.Determined.{hear-determined, hear-refused-keeps, finish-determined, finish-refused-keeps}
@@ -33,6 +33,7 @@ decimal-both = record {
         record { back = record { refusal = refusal; value = cond (eqb refusal 0) (numberOf 10 given) 0 }; said = record { refusal-is = refl; value-is = refl } };
     from-the-table = λ given back said. from-table (numberOrder 10 10 given) tt (said .refusal-is);
     keeps = λ given back said refused. refl;
+    zeros = λ given back said refused. (number-refused said refused, tt);
   };
   determined = record {
     one-outcome = λ given back back′ said said′.
@@ -51,6 +52,7 @@ hexadecimal-both = record {
         record { back = record { refusal = refusal; value = cond (eqb refusal 0) (numberOf 16 given) 0 }; said = record { refusal-is = refl; value-is = refl } };
     from-the-table = λ given back said. from-table (numberOrder 16 16 given) tt (said .refusal-is);
     keeps = λ given back said refused. refl;
+    zeros = λ given back said refused. (number-refused said refused, tt);
   };
   determined = record {
     one-outcome = λ given back back′ said said′.
@@ -91,6 +93,7 @@ requests-hear-both = record {
     keeps = λ given back said refused.
         let kept = hear-refused-keeps said refused in
         λ i. (kept .0 i, kept .2 i);
+    zeros = λ given back said refused. (hear-refused-keeps said refused .1, tt);
   };
   determined = record {
     one-outcome = λ given back back′ said said′.
@@ -112,6 +115,7 @@ requests-finish-both = record {
         };
     from-the-table = λ given back said. from-table (roomOrder largestAnswer (given .output)) (room-order _ _) (said .said-is .refusal-is);
     keeps = λ given back said refused. finish-refused-keeps said refused .1;
+    zeros = λ given back said refused. (finish-refused-keeps said refused .0, tt);
   };
   determined = record {
     one-outcome = λ given back back′ said said′.
@@ -136,6 +140,7 @@ walks-hear-both = record {
     keeps = λ given back said refused.
         let kept = Walks·hear-refused-keeps said refused in
         λ i. (kept .0 i, kept .2 i);
+    zeros = λ given back said refused. (Walks·hear-refused-keeps said refused .1, tt);
   };
   determined = record {
     one-outcome = λ given back back′ said said′.
@@ -157,6 +162,7 @@ walks-finish-both = record {
         };
     from-the-table = λ given back said. from-table (roomOrder room (given .output)) (room-order _ _) (said .said-is .refusal-is);
     keeps = λ given back said refused. Walks·finish-refused-keeps said refused .1;
+    zeros = λ given back said refused. (Walks·finish-refused-keeps said refused .0, tt);
   };
   determined = record {
     one-outcome = λ given back back′ said said′.

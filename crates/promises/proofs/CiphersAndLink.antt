@@ -1,15 +1,17 @@
 -- Promises 1 and 2 of the calls of the ciphers, the keystreams, the numbering, the frame and the link. Assumes nothing.
 use Prim.Native.Nat.{ℕ, _+_}
-use mathlib.Core.Path.{refl, sym, _∙_}
-use mathlib.Core.Bool.{cond, _||_}
-use mathlib.Core.List.{List}
+use mathlib.Core.Path.{_≡_, refl, sym, _∙_}
+use mathlib.Core.Bool.{Bool, true, false, cond, _||_}
+use mathlib.Core.List.{List, [], _∷_}
+use borrow.Author.Tests.{ne-eqb, eqb-false}
 use lib.Dec.{eqb}
 use lib.ListN.{length}
 use Rattle.refusals.specs.Refusal.{first, lent, absent, distinct}
+use Rattle.refusals.proofs.Tests.{neither}
 use Rattle.octets.specs.Bits.{bitOf, stored}
 use Rattle.octets.specs.Cut.{cutOrder, CutCall}
 use Rattle.kasumi.specs.Kasumi.{kasumi, kasumiOrder}
-use Rattle.kasumi.proofs.Determined.{kasumi-determined}
+use Rattle.kasumi.proofs.Determined.{kasumi-determined, kasumi-refused}
 use Rattle.kgcore.specs.declared.Inputs.{Inputs}
 use Rattle.kgcore.specs.Kgcore.{keyBit, kgcoreOrder, KgcoreCall}
 use Rattle.keystreams.specs.A5.{gsmKind, ecsdKind, block1, block2, a5Order, A5Call}
@@ -21,7 +23,8 @@ use Rattle.frames.specs.Frame.{payloadOf, lookOrder, headerOctets, headerOrder,
 use Rattle.link.specs.Link.{ciphered, frameAt, endOrder, linkOf}
 use Rattle.link.specs.Seal.{sealOrder}
 use Rattle.link.specs.Open.{numberOf, givesNumber, openOrder}
-use Rattle.link.proofs.Determined.{open-sender-determined, open-receiver-determined, seal-determined, seal-refused-keeps, open-determined, open-refused-keeps}
+use Rattle.link.proofs.Determined.{open-sender-determined, open-receiver-determined, seal-determined, seal-refused-keeps, open-determined, open-refused-keeps, open-refused-number}
+use Rattle.promises.specs.PublicCall.{AllZero}
 use Rattle.promises.specs.Calls.{cutCall, kasumiCall, kgcoreCall, gsmCall, ecsdCall, gea4Call, numberCall, lookRefusalCall, putHeaderCall, openSenderCall, openReceiverCall, sealCall, openCall}
 use Rattle.promises.proofs.Forms.{Both, from-table, only-then, puts-both, puts-two-both}
 
@@ -91,6 +94,7 @@ kasumi-both = record {
     };
     from-the-table = λ given back said. from-table (kasumiOrder (given .key)) tt (said .refusal-is);
     keeps = λ given back said refused. refl;
+    zeros = λ given back said refused. (kasumi-refused _ _ _ _ said refused, tt);
   };
   determined = record {
     one-outcome = λ given back back′ said said′.
@@ -107,12 +111,18 @@ look-refusal-both = record {
     gives = λ given. record { back = first (lookOrder given); said = refl };
     from-the-table = λ given back said. from-table (lookOrder given) tt said;
     keeps = λ given back said refused. refl;
+    zeros = λ given back said refused. tt;
   };
   determined = record {
     one-outcome = λ given back back′ said said′. said ∙ sym said′;
     refuses = λ given back said. only-then (lookOrder given) tt said;
   };
 }
+
+-- a number that is 0 unless a test holds
+unless : (test : Bool) (number : ℕ) → (test ≡ false → number ≡ 0) → AllZero (cond test [] (number ∷ []))
+unless true number zero = tt
+unless false number zero = (zero refl, tt)
 
 pub number-both : Both numberCall
 unfolding numberOrder candidateOrder distinct absent
@@ -130,6 +140,8 @@ number-both = record {
         };
     from-the-table = λ given back said. from-table (numberOrder 32 (given .numbering) (given .sent)) tt (said .refusal-is);
     keeps = λ given back said refused. number-refused-keeps said refused;
+    zeros = λ given back said refused. 
+        unless (eqb (back .refusal) 11) (back .number) (λ other. said .number-is ∙ simp (ne-eqb (back .refusal) 0 refused, other));
   };
   determined = record {
     one-outcome = λ given back back′ said said′.
@@ -151,6 +163,7 @@ open-sender-both = record {
         };
     from-the-table = λ given back said. from-table (endOrder (given .key) (given .sapi) (given .direction)) tt (said .refusal-is);
     keeps = λ given back said refused. refl;
+    zeros = λ given back said refused. tt;
   };
   determined = record {
     one-outcome = λ given back back′ said said′.
@@ -172,6 +185,7 @@ open-receiver-both = record {
         };
     from-the-table = λ given back said. from-table (endOrder (given .key) (given .sapi) (given .direction)) tt (said .refusal-is);
     keeps = λ given back said refused. refl;
+    zeros = λ given back said refused. tt;
   };
   determined = record {
     one-outcome = λ given back back′ said said′.
@@ -201,6 +215,7 @@ seal-both = record {
     keeps = λ given back said refused.
         let kept = seal-refused-keeps said refused in
         λ i. (kept .2 i, kept .3 i);
+    zeros = λ given back said refused. (seal-refused-keeps said refused .0, (seal-refused-keeps said refused .1, tt));
   };
   determined = record {
     one-outcome = λ given back back′ said said′.
@@ -231,6 +246,13 @@ open-both = record {
     keeps = λ given back said refused.
         let kept = open-refused-keeps said refused in
         λ i. (kept .1 i, kept .2 i);
+    zeros = λ given back said refused. (
+        open-refused-keeps said refused .0,
+        unless (eqb (back .refusal) 11 || eqb (back .refusal) 4) (back .number)
+            (λ other.
+            let others = neither (eqb (back .refusal) 11) (eqb (back .refusal) 4) other in
+            open-refused-number said refused (eqb-false (back .refusal) 11 (others .0)) (eqb-false (back .refusal) 4 (others .1))),
+      );
   };
   determined = record {
     one-outcome = λ given back back′ said said′.
