@@ -45,6 +45,9 @@ listed=$(sed -nE 's/^\| `([a-z0-9_]+::[a-z0-9_]+)`.*/\1/p' docs/CALLS.md | sort)
 # In that list a comment with the call's name stands before its entry.
 promised=$(sed -nE 's/^-- ([a-z0-9_]+::[a-z0-9_]+)$/\1/p' crates/promises/specs/Calls.antt | sort)
 [ "$calls" = "$promised" ] || { fault 'the promises do not speak of exactly the public calls:'; diff <(echo "$promised") <(echo "$calls") >&2 || true; }
+# Each call is made in public_calls, which proves that it meets its entry.
+made=$(grep -hoE '^    [a-z0-9_]+::[a-z0-9_]+\(' crates/public_calls/src/*.rt | tr -d ' (' | sort)
+[ "$calls" = "$made" ] || { fault 'public_calls does not make exactly the public calls:'; diff <(echo "$made") <(echo "$calls") >&2 || true; }
 # Each entry is in the list.
 while IFS= read -r entry; do
     sed -n '/^publicCalls =/,/^$/p' crates/promises/specs/Calls.antt | grep -qE "(^| )$entry( |\$)" || fault "$entry is not among the publicCalls"

@@ -40,10 +40,12 @@ marked =
     record { given = blocks 696; said = 11 } ∷
     -- P9: V 4, N 500: refusal 9
     record { given = first (candidateOrder 32 (at 4) 500); said = 9 } ∷
-    -- P10: V 480, N 448: 448, and late, so that V stays
+    -- P10: V 480, N 448: not refused, 448, and late, so that V stays
+    record { given = first (candidateOrder 32 (at 480) 448); said = 0 } ∷
     record { given = candidate 32 480 448; said = 448 } ∷
     record { given = accepted 32 (at 480) 448 .next; said = 480 } ∷
-    -- P11: V 480, N 447: 959, and new, so that V is one more
+    -- P11: V 480, N 447: not refused, 959, and new, so that V is one more
+    record { given = first (candidateOrder 32 (at 480) 447); said = 0 } ∷
     record { given = candidate 32 480 447; said = 959 } ∷
     record { given = accepted 32 (at 480) 959 .next; said = 960 } ∷ []
 

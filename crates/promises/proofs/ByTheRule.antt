@@ -1,12 +1,11 @@
 -- Sealing and opening by the frame layout and the numbering rule, for every width up to 512. Assumes nothing.
-use Prim.Native.Nat.{ℕ, _+_, _%_, _≤_, _<_}
+use Prim.Native.Nat.{ℕ, _+_, _≤_, _<_}
 use native.Mathlib.Omega.{arith}
-use native.Mathlib.Decide.{decLe}
 use mathlib.Core.Path.{_≡_, refl, sym, ap, ap₂, subst, _∙_}
 use mathlib.Core.Bool.{true, false, true≢false}
 use mathlib.Core.List.{List, _++_}
 use borrow.Author.Tests.{eqb-true, ltb-false, leb-false, not-false}
-use lib.Dec.{lit<, lit≤}
+use lib.Dec.{lit<}
 use lib.ListN.{length, take, drop}
 use lib.Seq.{take-at, drop-at}
 use Rattle.refusals.specs.Refusal.{Row, first, rowAt}
@@ -16,8 +15,7 @@ use Rattle.numbering.specs.declared.Numbering.{Numbering}
 use Rattle.numbering.specs.Numbering.{end, raised, candidate, isRepeat, accepted, candidateOrder, Candidate}
 use Rattle.numbering.proofs.Candidate.{candidate-is, start-refusal, end-refusal}
 use Rattle.numbering.proofs.State.{accepted-new, accepted-late}
-use Rattle.frames.specs.declared.Header.{Header}
-use Rattle.frames.specs.Frame.{AreOctets, frame, headerOf, payloadOf, lookOrder, looked}
+use Rattle.frames.specs.Frame.{AreOctets, frame, headerOf, payloadOf, lookOrder}
 use Rattle.frames.proofs.ReadBack.{length-payload, header-of-range, frame-of-octets}
 use Rattle.frames.proofs.Determined.{look-empty}
 use Rattle.link.specs.declared.Sender.{Sender}
@@ -27,7 +25,7 @@ use Rattle.link.specs.Open.{isOfLink, numberOf, openOrder, givesNumber, OpenCal
 use Rattle.link.proofs.Frames.{length-ciphered, ciphered-twice, length-frame-at}
 use Rattle.link.proofs.Determined.{open-refusals}
 use Rattle.link.proofs.Laws.{seal-done}
-use Rattle.promises.specs.ByTheRule.{SealedByTheRule, OpenedByTheRule, ByTheRule}
+use Rattle.promises.specs.ByTheRule.{OpenedByTheRule, ByTheRule}
 
 module _ (w : ℕ) (narrow : w ≤ 512) (receiver : Receiver) (octets before : List ℕ) (each : AreOctets octets) where
   rows : List Row

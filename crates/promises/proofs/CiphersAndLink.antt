@@ -140,7 +140,7 @@ number-both = record {
         };
     from-the-table = λ given back said. from-table (numberOrder 32 (given .numbering) (given .sent)) tt (said .refusal-is);
     keeps = λ given back said refused. number-refused-keeps said refused;
-    zeros = λ given back said refused. 
+    zeros = λ given back said refused.
         unless (eqb (back .refusal) 11) (back .number) (λ other. said .number-is ∙ simp (ne-eqb (back .refusal) 0 refused, other));
   };
   determined = record {
@@ -247,12 +247,12 @@ open-both = record {
         let kept = open-refused-keeps said refused in
         λ i. (kept .1 i, kept .2 i);
     zeros = λ given back said refused. (
-        open-refused-keeps said refused .0,
-        unless (eqb (back .refusal) 11 || eqb (back .refusal) 4) (back .number)
-            (λ other.
-            let others = neither (eqb (back .refusal) 11) (eqb (back .refusal) 4) other in
-            open-refused-number said refused (eqb-false (back .refusal) 11 (others .0)) (eqb-false (back .refusal) 4 (others .1))),
-      );
+      open-refused-keeps said refused .0,
+      unless (eqb (back .refusal) 11 || eqb (back .refusal) 4) (back .number)
+          (λ other.
+          let others = neither (eqb (back .refusal) 11) (eqb (back .refusal) 4) other in
+          open-refused-number said refused (eqb-false (back .refusal) 11 (others .0)) (eqb-false (back .refusal) 4 (others .1))),
+    );
   };
   determined = record {
     one-outcome = λ given back back′ said said′.

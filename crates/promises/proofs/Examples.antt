@@ -24,22 +24,19 @@ use Rattle.link.specs.Open.{OpenReceiverCall, isReceiver, givesNumber, OpenCall
 use Rattle.link.proofs.Frames.{ciphered-twice, length-ciphered}
 use Rattle.link.proofs.Sealing.{seal-of, seal-0, seal-3-empty}
 use Rattle.link.proofs.Opening.{open-refused, open-looked}
-use Rattle.link.proofs.Laws.{open-new, open-repeat}
+use Rattle.link.proofs.Laws.{open-new, open-repeat, open-no-room}
 use Rattle.promises.specs.Bench.{SentFrame, withSealed, Seals, no-more, seal, IsOneOf, here, there, Events, arrival, refused, arrivals, InWindow}
-use Rattle.promises.specs.Examples.{RunOf, Misread}
+use Rattle.promises.specs.Examples.{RunOf, Shown}
 use Rattle.promises.proofs.Sender.{senders-half}
 
--- the turn is not on the air: the frame of a number, one turn on, is the frame of the number itself with another payload
-pub turn-not-on-air : (link : Link) (n : ℕ) (payload : List ℕ) → frameAt link (n + 512) payload ≡ frameAt link n (ciphered link n (ciphered link (n + 512) payload))
+-- the turn is not on the air: the frame of a number is, for every number with the same nine bits, the frame of that number with another payload
+pub turn-not-on-air : (link : Link) (m n : ℕ) (payload : List ℕ) → m % 512 ≡ n % 512 → frameAt link m payload ≡ frameAt link n (ciphered link n (ciphered link m payload))
 unfolding frameAt headerAt
-turn-not-on-air link n payload =
+turn-not-on-air link m n payload same =
     ap₂ frame
-    {x = record { sapi = link .sapi; direction = link .direction; sent = (n + 512) % 512 }}
-    (λ i. record { sapi = link .sapi; direction = link .direction; sent = on-air i })
-    (sym (ciphered-twice link n (ciphered link (n + 512) payload)))
-  where
-    on-air : (n + 512) % 512 ≡ n % 512
-    on-air = omega arith
+    {x = record { sapi = link .sapi; direction = link .direction; sent = m % 512 }}
+    (λ i. record { sapi = link .sapi; direction = link .direction; sent = same i })
+    (sym (ciphered-twice link n (ciphered link m payload)))
 
 module _ (key : List ℕ) (iov sapi direction : ℕ) (valid : isKey key ≡ true) (range : inRange sapi direction ≡ true)
     (payload : List ℕ) (some : 1 ≤ length payload) (most : length payload ≤ 1520) where
@@ -183,8 +180,19 @@ module _ (key : List ℕ) (iov sapi direction : ℕ) (valid : isKey key ≡ true
   stop : {numbering : Numbering} → Going numbering numbering []
   stop = record { events = no-more; in-window = tt; arrived = refl }
 
-  -- ---- the run: 0 arrives; 1 to 479 are lost or late, so 480 is 479 above V; 478 comes late, and again; 481 to 959 are lost, a stretch of 479 over
-  -- the rollover at 512, so 960 is 479 above V; 929 is 32 below V; and octets that are no frame come in between
+  -- a frame presented without room is refused with 4, and may be presented again
+  no-room : {numbering last : Numbering} {numbers : List ℕ} (n : ℕ) → Ready numbering n → isRepeat numbering n ≡ false → Going numbering last numbers
+      → Going numbering last numbers
+  no-room {numbering} n ready anew going = record {
+    events =
+        refused (eqb-false 4 0 refl)
+        (open-no-room 32 (lit≤ tt) (receiver-at numbering) (good-receiver numbering (ready .good)) n (ready .may) payload some most [] anew some)
+        (going .events);
+    in-window = going .in-window;
+    arrived = going .arrived;
+  }
+
+  -- ---- the runs
 
   abbrev state : ℕ → ℕ → Numbering
   state next marks = record { next = next; marks = marks }
@@ -206,9 +214,9 @@ module _ (key : List ℕ) (iov sapi direction : ℕ) (valid : isKey key ≡ true
 
   from-0 : Going start (state 961 2147483649) (0 ∷ 480 ∷ 478 ∷ 478 ∷ 960 ∷ 929 ∷ [])
   unfolding isGood isRepeat mark accepted end
-  from-0 = new 0 (ready refl tt tt tt) refl (silence refl (new 480 (ready refl tt tt tt) refl (new 478 (ready refl tt tt tt) refl from-481)))
+  from-0 = new 0 (ready refl tt tt tt) refl (silence refl (no-room 480 (ready refl tt tt tt) refl (new 480 (ready refl tt tt tt) refl (new 478 (ready refl tt tt tt) refl from-481))))
 
-  run-of : {last : Numbering} {numbers : List ℕ} → Going start last numbers → RunOf 32 key iov sapi direction numbers
+  abbrev run-of : {last : Numbering} {numbers : List ℕ} → Going start last numbers → RunOf 32 key iov sapi direction numbers
   run-of {last} going = record {
     sender = sender-at 0;
     sender-last = sender-at 962;
@@ -223,38 +231,67 @@ module _ (key : List ℕ) (iov sapi direction : ℕ) (valid : isKey key ≡ true
     arrived = going .arrived;
   }
 
-  pub over-a-rollover : RunOf 32 key iov sapi direction (0 ∷ 480 ∷ 478 ∷ 478 ∷ 960 ∷ 929 ∷ [])
-  over-a-rollover = run-of from-0
+  -- a frame is handed out under the one number of the window with its nine bits
+  garbled : ℕ → ℕ → List ℕ
+  garbled m n = ciphered link n (ciphered link m payload)
 
-  -- ---- the edge: after 0 and 480 V is 481, and 961, which is 480 above it, is read as 449, one turn behind
-
-  pub up-to-the-edge : RunOf 32 key iov sapi direction (0 ∷ 480 ∷ [])
-  unfolding isGood isRepeat mark accepted end
-  up-to-the-edge = run-of (new 0 (ready refl tt tt tt) refl (new 480 (ready refl tt tt tt) refl (stop {numbering = state 481 1})))
-
-  garbled : List ℕ
-  garbled = ciphered link 449 (ciphered link 961 payload)
-
-  length-garbled : length garbled ≡ length payload
+  length-garbled : (m n : ℕ) → length (garbled m n) ≡ length payload
   unfolding garbled
-  length-garbled = length-ciphered link 449 (ciphered link 961 payload) ∙ length-ciphered link 961 payload
+  length-garbled m n = length-ciphered link n (ciphered link m payload) ∙ length-ciphered link m payload
 
-  pub misread : Misread up-to-the-edge
-  unfolding up-to-the-edge run-of isGood isRepeat mark accepted end garbled
-  misread = record {
-    frame = sealed-at 961;
-    before = payload;
-    after = garbled ++ drop (length garbled) payload;
-    number = 449;
-    size = length garbled;
-    later = receiver-at (state 481 2147483649);
-    one = one-of 961 (lit< tt);
-    room = omega arith;
-    one-above = refl;
-    call =
-        subst (λ (o : List ℕ). OpenCall 32 (receiver-at (state 481 1)) o payload 0 449 (length garbled) (receiver-at (state 481 2147483649)) (garbled ++ drop (length garbled) payload))
-        (sym (turn-not-on-air link 449 payload) ∙ octets-are 961 (lit< tt))
-        (open-new 32 (lit≤ tt) (receiver-at (state 481 1)) (good-receiver (state 481 1) refl) 449 (ready {next = 481} {marks = 1} {n = 449} refl tt tt tt .may) garbled
-        (omega (arith, some, length-garbled)) (omega (arith, most, length-garbled)) payload refl (omega (arith, length-garbled)));
-    not-its-own = eqb-false 449 961 refl;
+  taken-for : {numbering : Numbering} (m n : ℕ) → m < 962 → m % 512 ≡ n % 512 → Ready numbering n → isRepeat numbering n ≡ false
+      → OpenCall 32 (receiver-at numbering) (sealed-at m .octets) payload 0 n (length (garbled m n)) (receiver-at (accepted 32 numbering n)) (garbled m n ++ drop (length (garbled m n)) payload)
+  unfolding garbled
+  taken-for {numbering} m n sealed same ready anew =
+      let long = length-garbled m n in
+      subst (λ (o : List ℕ). OpenCall 32 (receiver-at numbering) o payload 0 n (length (garbled m n)) (receiver-at (accepted 32 numbering n)) (garbled m n ++ drop (length (garbled m n)) payload))
+      (sym (turn-not-on-air link m n payload same) ∙ octets-are m sealed)
+      (open-new 32 (lit≤ tt) (receiver-at numbering) (good-receiver numbering (ready .good)) n (ready .may) (garbled m n)
+      (omega (arith, some, long)) (omega (arith, most, long)) payload anew (omega (arith, long)))
+
+  up-to-481 : Going start (state 481 1) (0 ∷ 480 ∷ [])
+  unfolding isGood isRepeat mark accepted end
+  up-to-481 = new 0 (ready refl tt tt tt) refl (new 480 (ready refl tt tt tt) refl stop)
+
+  up-to-34 : Going start (state 34 1) (0 ∷ 33 ∷ [])
+  unfolding isGood isRepeat mark accepted end
+  up-to-34 = new 0 (ready refl tt tt tt) refl (new 33 (ready refl tt tt tt) refl stop)
+
+  pub shown : Shown key iov sapi direction
+  unfolding isGood isRepeat mark accepted end
+  shown = record {
+    over-a-rollover = run-of from-0;
+    up-to-481 = run-of up-to-481;
+    above = record {
+      frame = sealed-at 961;
+      before = payload;
+      after = garbled 961 449 ++ drop (length (garbled 961 449)) payload;
+      size = length (garbled 961 449);
+      later = receiver-at (state 481 2147483649);
+      next-is = refl;
+      number-is = refl;
+      one = one-of 961 (lit< tt);
+      room = omega arith;
+      call = taken-for {numbering = state 481 1} 961 449 (lit< tt) refl (ready refl tt tt tt) refl;
+      not-its-own = eqb-false 449 961 refl;
+    };
+    up-to-34 = run-of up-to-34;
+    below = record {
+      frame = sealed-at 1;
+      before = payload;
+      after = garbled 1 513 ++ drop (length (garbled 1 513)) payload;
+      size = length (garbled 1 513);
+      later = receiver-at (state 514 1);
+      next-is = refl;
+      number-is = refl;
+      one = one-of 1 (lit< tt);
+      room = omega arith;
+      call = taken-for {numbering = state 34 1} 1 513 (lit< tt) refl (ready refl tt tt tt) refl;
+      not-its-own = eqb-false 513 1 refl;
+    };
   }
+
+-- and of one link in particular, with a key of zeros and a payload of one octet
+pub shown-once : Shown (replicate 16 0) 0 3 0
+unfolding isKey inRange
+shown-once = shown (replicate 16 0) 0 3 0 refl refl (7 ∷ []) (lit≤ tt) (lit≤ tt)

@@ -1,5 +1,5 @@
 -- Every public call of every crate, each with the definition that its contract cites, in one list. That each function meets its entry is proved in
--- src/. The width of the link's window is 32. Assumes nothing.
+-- the crate public_calls. The width of the link's window is 32. Assumes nothing.
 use Prim.Native.Nat.{ℕ}
 use mathlib.Core.Path.{_≡_}
 use mathlib.Core.Bool.{cond, _||_}

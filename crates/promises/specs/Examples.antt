@@ -1,8 +1,8 @@
 -- That promise 3 is not empty, and that its bound is the true one: what a run that meets its hypotheses is, and what a misread frame is.
 -- Assumes nothing.
-use Prim.Native.Nat.{ℕ, _+_, _-_, _≤_}
+use Prim.Native.Nat.{ℕ, _≤_}
 use mathlib.Core.Path.{_≡_}
-use mathlib.Core.List.{List}
+use mathlib.Core.List.{List, [], _∷_}
 use lib.ListN.{length}
 use Rattle.link.specs.declared.Sender.{Sender}
 use Rattle.link.specs.declared.Receiver.{Receiver}
@@ -24,17 +24,28 @@ pub record RunOf (w : ℕ) (key : List ℕ) (iov sapi direction : ℕ) (numbers 
   pub in-window : InWindow events
   pub arrived : arrivals events ≡ numbers
 
--- after a run, one of the sender's frames arrives that is numbered 512 - w above the next number, one more than the window allows: it is handed
--- out, and under a number that is not its own
-pub record Misread {w : ℕ} {key : List ℕ} {iov sapi direction : ℕ} {numbers : List ℕ} (run : RunOf w key iov sapi direction numbers) : Type 0 where
+-- after a run the next number is v; one of the sender's frames, of number n, then arrives, and is handed out under another number
+pub record Misread {w : ℕ} {key : List ℕ} {iov sapi direction : ℕ} {numbers : List ℕ} (run : RunOf w key iov sapi direction numbers) (v n number : ℕ) : Type 0 where
   pub frame : SentFrame
   pub before : List ℕ
   pub after : List ℕ
-  pub number : ℕ
   pub size : ℕ
   pub later : Receiver
+  pub next-is : run .receiver-last .numbering .next ≡ v
+  pub number-is : frame .number ≡ n
   pub one : IsOneOf frame (run .frames)
   pub room : length (frame .payload) ≤ length before
-  pub one-above : frame .number ≡ run .receiver-last .numbering .next + (512 - w)
   pub call : OpenCall w (run .receiver-last) (frame .octets) before 0 number size later after
   pub not-its-own : number ≡ frame .number → ⊥
+
+-- what is shown of a link, at its width of 32
+pub record Shown (key : List ℕ) (iov sapi direction : ℕ) : Type 0 where
+  -- a run over a rollover. 0 arrives; 480 is 479 above the next number 1; 478 comes late, and again; 481 to 959 are lost, a stretch of 479 over the
+  -- rollover at 512, and 960 is 479 above the next number 481; 929 is 32 below the next number 961. Seals and presentations are refused in between
+  pub over-a-rollover : RunOf 32 key iov sapi direction (0 ∷ 480 ∷ 478 ∷ 478 ∷ 960 ∷ 929 ∷ [])
+  -- one past the upper edge: after 0 and 480 the next number is 481, and 961, which is 480 above it, is read as 449, one turn behind
+  pub up-to-481 : RunOf 32 key iov sapi direction (0 ∷ 480 ∷ [])
+  pub above : Misread up-to-481 481 961 449
+  -- one past the lower edge: after 0 and 33 the next number is 34, and 1, which is 33 below it, is read as 513, one turn ahead
+  pub up-to-34 : RunOf 32 key iov sapi direction (0 ∷ 33 ∷ [])
+  pub below : Misread up-to-34 34 1 513
