@@ -13,7 +13,7 @@ use lib.Seq.{length-take-le, drop-drop, drop-append-le, take-append-seam}
 use Rattle.refusals.specs.Refusal.{Row, first, lent, absent, distinct, rowAt}
 use Rattle.refusals.proofs.Laws.{then-and-only-then}
 use Rattle.lines.specs.Text.{Added}
-use Rattle.lines.proofs.Answered.{written-answer, answered-added}
+use Rattle.lines.proofs.Answered.{answered-added}
 use Rattle.lines.proofs.Digits.{by-test, and-left, and-right}
 use Rattle.keystreams.specs.Key.{isKey, prepared}
 use Rattle.numbering.specs.Numbering.{start, candidateOrder, accepted}
@@ -27,6 +27,7 @@ use Rattle.link.specs.Seal.{OpenSenderCall, sealOrder, SealCall}
 use Rattle.link.specs.Open.{OpenReceiverCall, numberOf, openOrder, givesNumber, OpenCall}
 use Rattle.link.proofs.Frames.{length-ciphered, length-frame-at}
 use Rattle.bench.specs.Ends.{benchKey, benchLink, frameRoom, sealRefusal, sealedFrame, sealed, lostText, phoneAfter, openRefusal, openedText, opened}
+use Rattle.bench.proofs.Texts.{written-text}
 
 -- ---- refusals
 
@@ -191,7 +192,7 @@ module _ (phone : Sender) (text : List ℕ) {given : Sealed} (is : given ≡ sea
   pub sealed-front : {before after : List ℕ} → Added (sealedFrame phone text) before 0 (0 + given .size) after → take (given .size) after ≡ sealedFrame phone text
   sealed-front {after = after} added =
       let same : given .size ≡ 0 + given .size = omega arith in
-      ap (λ (n : ℕ). take n after) same ∙ written-answer (answered-added added)
+      ap (λ (n : ℕ). take n after) same ∙ written-text (answered-added added)
 
 -- no frame is lost, and one frame more
 pub phone-none : (phone : Sender) → phone ≡ phoneAfter 0 phone

@@ -7,14 +7,16 @@ use native.Mathlib.Omega.{arith}
 use mathlib.Core.Path.{_≡_, refl, sym, ap, ap₂, subst, _∙_}
 use mathlib.Core.Bool.{Bool, true, false, cond, _&&_}
 use mathlib.Core.List.{List, [], _∷_, _++_, append-assoc}
-use borrow.Author.Tests.{eq-eqb, ne-eqb, lt-ltb, le-ltb, le-leb}
+use borrow.Author.Tests.{eqb-true, eqb-false, eq-eqb, ne-eqb, lt-ltb, le-ltb, le-leb}
 use lib.Dec.{eqb, lit≤}
-use lib.ListN.{length, getD, drop, set, length-append}
+use lib.ListN.{length, getD, take, drop, set, length-append}
 use lib.Seq.{drop-length}
 use Rattle.lines.specs.Digits.{within, numberOf, isNumber, NumberCall}
-use Rattle.lines.specs.Text.{decimalText, Answered, Added}
+use Rattle.lines.specs.Text.{isHex, hexOctets, HexCall, decimalText, Answered, Added}
 use Rattle.lines.proofs.Answered.{answered-added}
+use Rattle.lines.proofs.Determined.{number-none, number-read, number-refused, put-read, hex-fits, hex-read}
 use Rattle.lines.proofs.Digits.{by-test, within-both, within-below, within-above, within-to, from-place, number-below, number-size, number-digits}
+use Rattle.lines.proofs.Text.{length-hexOctets}
 use Rattle.link.specs.declared.Sender.{Sender}
 use Rattle.link.specs.declared.Receiver.{Receiver}
 use Rattle.link.specs.declared.Sealed.{Sealed}
@@ -23,8 +25,8 @@ use Rattle.bench.specs.declared.Bench.{Bench}
 use Rattle.bench.specs.declared.script.Stepped.{Stepped}
 use Rattle.bench.specs.Columns.{column, word, keptWord, gaveWord, lostWord, cellColumns, allPrintable}
 use Rattle.bench.specs.Ends.{sealed, sealedFrame, lostText, phoneAfter, opened, openedText, frameKept, shelved}
-use Rattle.bench.specs.Script.{Step, phoneText, handedColumns, silentColumns, passing, losing, keeping, giving, nothing, remarking, begins, remarkWord, passWord, loseWord, keepWord, giveWord, countOf, placeOf, loseLine, keepLine, giveLine, commanded, obeyed, HandCall, StepCall}
-use Rattle.bench.proofs.Texts.{added-more}
+use Rattle.bench.specs.Script.{Step, phoneText, handedColumns, silentColumns, passing, losing, keeping, giving, noising, nothing, remarking, begins, remarkWord, passWord, loseWord, keepWord, giveWord, noiseWord, countOf, placeOf, loseLine, keepLine, giveLine, noiseLine, commanded, obeyed, HandCall, StepCall}
+use Rattle.bench.proofs.Texts.{added-more, written-text}
 
 -- ---- columns joined
 
@@ -93,8 +95,11 @@ pub count-long : (text : List ℕ) → 3 < length text → 0 ≡ countOf text
 unfolding countOf isNumber
 count-long text long = rw (within-above 1 3 (length text) (omega arith) long)
 
-read-value : {base most : ℕ} {text : List ℕ} {ok : Bool} {value : ℕ} → NumberCall base most text ok value → value ≡ cond (isNumber base most text) (numberOf base text) 0
-read-value {base} {text = text} call = call .value-is ∙ ap (λ (b : Bool). cond b (numberOf base text) 0) (call .ok-is)
+read-value : {base most : ℕ} {text : List ℕ} {refusal value : ℕ} → NumberCall base most text refusal value → value ≡ cond (isNumber base most text) (numberOf base text) 0
+read-value {refusal = refusal} call =
+    by-test (eqb refusal 0)
+    (λ done. let read = number-read call (eqb-true refusal 0 done) in rw (read .0) (read .1))
+    (λ refused. rw (number-none call (eqb-false refusal 0 refused)) (number-refused call (eqb-false refusal 0 refused)))
 
 module _ (text : List ℕ) where
   same-number : length text ≤ 3 → isNumber 10 10 text ≡ isNumber 10 3 text
@@ -110,7 +115,7 @@ module _ (text : List ℕ) where
   unfolding countOf
   count-below = by-test (isNumber 10 3 text) (λ number. rw number (below-1000 number)) (λ none. rw none (lit≤ tt))
 
-  pub count-read : {ok : Bool} {value : ℕ} → length text ≤ 3 → NumberCall 10 10 text ok value → value ≡ countOf text
+  pub count-read : {refusal value : ℕ} → length text ≤ 3 → NumberCall 10 10 text refusal value → value ≡ countOf text
   unfolding countOf
   count-read short call = read-value call ∙ ap (λ (b : Bool). cond b (numberOf 10 text) 0) (same-number short)
 
@@ -192,6 +197,12 @@ handed {before = before} {after} {end = end} given-is text-is put = record {
       (ap₂ (λ (o : Opened) (l : List ℕ). cellColumns (o .refusal) (o .number) (o .receiver .numbering .next) l) given-is text-is) put;
 }
 
+pub noised : (bench : Bench) (octets : List ℕ) {before after : List ℕ} {written : ℕ} {cell : Receiver} → cell ≡ opened (bench .cell) octets .receiver
+    → Answered (column (word 13) ++ (column (word 15) ++ handedColumns (bench .cell) octets)) before written after
+    → StepCall (noising bench octets) before (record { bench = record { phone = bench .phone; cell = cell; shelf = bench .shelf }; written = written }) after
+unfolding noising
+noised bench octets cell-is put = record { bench-is = λ i. record { phone = bench .phone; cell = cell-is i; shelf = bench .shelf }; said-is = put }
+
 -- what is done for a step is done for one that equals it
 pub stepped-as : {one other : Step} {before output : List ℕ} {stepped : Stepped} → one ≡ other → StepCall one before stepped output → StepCall other before stepped output
 stepped-as {before = before} {output} {stepped} same call = subst (λ (s : Step). StepCall s before stepped output) same call
@@ -242,6 +253,21 @@ module _ (bench : Bench) (rest : List ℕ) where
   unfolding giveLine
   give-other other = rw (ne-eqb (length rest) 1 other)
 
+  -- pairs of hex digits in a line are few enough for the room that they are lent
+  module _ (few : length rest ≤ 48) {before after : List ℕ} {refusal count : ℕ} (room : length before ≡ 46) (call : HexCall rest before refusal count after) where
+    pub noise-none : (refusal ≡ 0 → ⊥) → nothing bench 22 ≡ noiseLine bench rest
+    unfolding noiseLine
+    noise-none refused =
+        by-test (isHex rest)
+        (λ good. absurd (refused (hex-fits rest call good (omega (arith, length-hexOctets rest)))))
+        (λ bad. rw bad)
+
+    pub noise-some : refusal ≡ 0 → noising bench (take count after) ≡ noiseLine bench rest
+    unfolding noiseLine
+    noise-some done =
+        let put = put-read call done in
+        ap (noising bench) (written-text (record { written-is = put .0; output-is = put .1 })) ∙ rw (hex-read rest call done)
+
 module _ (bench : Bench) (line : List ℕ) where
   pub is-pass : {text : List ℕ} → begins passWord line ≡ true → text ≡ drop 5 line → passing bench text ≡ commanded bench line
   unfolding commanded
@@ -262,9 +288,14 @@ module _ (bench : Bench) (line : List ℕ) where
         unfolding commanded
         is-give give is = ap (giveLine bench) is ∙ rw (no-pass, no-lose, no-keep, give)
 
-        pub is-none : begins giveWord line ≡ false → nothing bench 19 ≡ commanded bench line
-        unfolding commanded
-        is-none no-give = rw (no-pass, no-lose, no-keep, no-give)
+        module _ (no-give : begins giveWord line ≡ false) where
+          pub is-noise : {text : List ℕ} → begins noiseWord line ≡ true → text ≡ drop 6 line → noiseLine bench text ≡ commanded bench line
+          unfolding commanded
+          is-noise noise is = ap (noiseLine bench) is ∙ rw (no-pass, no-lose, no-keep, no-give, noise)
+
+          pub is-none : begins noiseWord line ≡ false → nothing bench 19 ≡ commanded bench line
+          unfolding commanded
+          is-none no-noise = rw (no-pass, no-lose, no-keep, no-give, no-noise)
 
   pub is-long : 48 < length line → nothing bench 16 ≡ obeyed bench line
   unfolding obeyed

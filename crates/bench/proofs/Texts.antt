@@ -10,9 +10,10 @@ use mathlib.Core.List.{List, [], _∷_, _++_, append-assoc, append-nil}
 use borrow.Author.Tests.{eq-eqb, ne-eqb}
 use lib.Dec.{eqb, lit≤}
 use lib.ListN.{length, getD, take, drop, set, replicate, length-append, length-take, length-drop, take-append-drop}
-use lib.Seq.{length-take-le, take-suc, take-at, drop-at, drop-drop, drop-append-le, drop-length, take-length}
+use lib.Seq.{length-take-le, take-append-seam, take-suc, take-at, drop-at, drop-drop, drop-append-le, drop-length, take-length}
 use Rattle.lines.specs.Digits.{within}
-use Rattle.lines.specs.Text.{decimalText, Added}
+use Rattle.refusals.specs.Refusal.{lent}
+use Rattle.lines.specs.Text.{decimalText, Answered, Added}
 use Rattle.lines.proofs.Digits.{within-both, within-below, within-above, from-place}
 use Rattle.lines.proofs.InDecimal.{decimal-one, length-more}
 use Rattle.lines.proofs.Text.{front-store}
@@ -60,6 +61,12 @@ module _ {a b before middle after : List ℕ} {place end last : ℕ} (room : pla
             ∙ append-assoc (take place before) a (b ++ drop (place + length (a ++ b)) before)
             ∙ ap (λ (l : List ℕ). take place before ++ l) (sym (append-assoc a b (drop (place + length (a ++ b)) before)));
       }
+
+-- what is written at the front is the text
+pub written-text : {text before : List ℕ} {written : ℕ} {after : List ℕ} → Answered text before written after → take written after ≡ text
+unfolding lent
+written-text {text} {before} put =
+    ap₂ (λ (n : ℕ) (l : List ℕ). take n l) (put .written-is) (put .output-is) ∙ take-append-seam text (drop (length text) before)
 
 -- a text over an empty column is a column
 pub column-put : {text before middle after : List ℕ} {place end last : ℕ} → place + 11 ≤ length before → length text ≤ 11

@@ -1,10 +1,10 @@
 -- The rules of the bench, what it writes for a script, and its calls. Hearing and answering line by line is said once in the crate `lines`.
 -- Assumes nothing.
 use Prim.Native.Nat.{ℕ}
-use mathlib.Core.Bool.{cond}
 use mathlib.Core.List.{List, [], _∷_, _++_}
-use Rattle.lines.specs.Text.{Answered}
-use Rattle.lines.specs.Hearing.{silence, Rules, Standing, hasRoom, HearCall as Hearing·HearCall, FinishCall as Hearing·FinishCall}
+use Rattle.lines.specs.declared.Put.{Put}
+use Rattle.lines.specs.Text.{roomOrder, PutCall}
+use Rattle.lines.specs.Hearing.{silence, Rules, Standing, HearCall as Hearing·HearCall, FinishCall as Hearing·FinishCall}
 use Rattle.lines.specs.Lines.{linesOf, answers}
 use Rattle.numbering.specs.Numbering.{start as Numbering·start}
 use Rattle.bench.specs.declared.Bench.{Bench}
@@ -59,14 +59,14 @@ heading =
 unfoldable pub benchOutput : List ℕ → List ℕ
 benchOutput input = heading ++ answers benchRules benchStart (linesOf input)
 
--- the heading at the front of an output; an output with too little room is not changed
-abbrev pub HeaderCall : List ℕ → ℕ → List ℕ → Type 0
-HeaderCall before written after = Answered (cond (hasRoom benchRules before) heading []) before written after
+-- the heading at the front of an output, which must have the room for every answer
+abbrev pub HeaderCall : List ℕ → Put → List ℕ → Type 0
+HeaderCall before put after = PutCall (roomOrder room before) heading before (put .refusal) (put .count) after
 
 -- hearing an octet
 abbrev pub HearCall : Play → ℕ → List ℕ → Told → List ℕ → Type 0
-HearCall play octet before told after = Hearing·HearCall benchRules (standing play) octet before (standing (told .play)) (told .written) after
+HearCall play octet before told after = Hearing·HearCall benchRules (standing play) octet before (told .refusal) (standing (told .play)) (told .written) after
 
 -- the end of the input
-abbrev pub FinishCall : Play → List ℕ → ℕ → List ℕ → Type 0
-FinishCall play before written after = Hearing·FinishCall benchRules (standing play) before written after
+abbrev pub FinishCall : Play → List ℕ → Put → List ℕ → Type 0
+FinishCall play before put after = Hearing·FinishCall benchRules (standing play) before (put .refusal) (put .count) after

@@ -6,7 +6,7 @@ use mathlib.Core.List.{List, [], _∷_, _++_}
 use lib.Dec.{eqb, ltb}
 use lib.ListN.{length, getD, drop}
 use Rattle.lines.specs.Digits.{within, numberOf, isNumber}
-use Rattle.lines.specs.Text.{decimalText, Answered, Added}
+use Rattle.lines.specs.Text.{isHex, hexOctets, decimalText, Answered, Added}
 use Rattle.link.specs.declared.Receiver.{Receiver}
 use Rattle.link.specs.declared.Sealed.{Sealed}
 use Rattle.bench.specs.declared.Bench.{Bench}
@@ -74,6 +74,13 @@ giving bench k =
       said = column (word 13) ++ (column (gaveWord ++ decimalText k) ++ handedColumns (bench .cell) frame);
     }
 
+-- the box hands octets of its own to the cell
+unfoldable pub noising : Bench → List ℕ → Step
+noising bench octets = record {
+  bench = record { phone = bench .phone; cell = opened (bench .cell) octets .receiver; shelf = bench .shelf };
+  said = column (word 13) ++ (column (word 15) ++ handedColumns (bench .cell) octets);
+}
+
 -- nothing is done for a bad line: a question mark, and the word that says why
 unfoldable pub nothing : Bench → ℕ → Step
 nothing bench why = record { bench = bench; said = column (word 23) ++ (column (word why) ++ silentColumns (bench .cell)) }
@@ -90,7 +97,7 @@ begins [] line = true
 begins (octet ∷ rest) [] = false
 begins (octet ∷ rest) (other ∷ line) = eqb octet other && begins rest line
 
--- `#`, `pass `, `lose `, `keep ` and `give `
+-- `#`, `pass `, `lose `, `keep `, `give ` and `noise `
 unfoldable pub remarkWord : List ℕ
 remarkWord = 35 ∷ []
 
@@ -105,6 +112,9 @@ keepWord = 107 ∷ 101 ∷ 101 ∷ 112 ∷ 32 ∷ []
 
 unfoldable pub giveWord : List ℕ
 giveWord = 103 ∷ 105 ∷ 118 ∷ 101 ∷ 32 ∷ []
+
+unfoldable pub noiseWord : List ℕ
+noiseWord = 110 ∷ 111 ∷ 105 ∷ 115 ∷ 101 ∷ 32 ∷ []
 
 -- a count of one to three digits; 0 where the text is none
 unfoldable pub countOf : List ℕ → ℕ
@@ -133,6 +143,10 @@ giveLine bench rest =
     (cond (ltb 9 (placeOf (getD rest 0 0))) (nothing bench 21) (giving bench (placeOf (getD rest 0 0))))
     (nothing bench 21)
 
+-- `noise HEX`: pairs of hex digits
+unfoldable pub noiseLine : Bench → List ℕ → Step
+noiseLine bench rest = cond (isHex rest) (noising bench (hexOctets rest)) (nothing bench 22)
+
 -- a line that is a command, by its first word
 unfoldable pub commanded : Bench → List ℕ → Step
 commanded bench line =
@@ -140,7 +154,8 @@ commanded bench line =
     (cond (begins loseWord line) (loseLine bench (drop 5 line))
     (cond (begins keepWord line) (keepLine bench (drop 5 line))
     (cond (begins giveWord line) (giveLine bench (drop 5 line))
-    (nothing bench 19))))
+    (cond (begins noiseWord line) (noiseLine bench (drop 6 line))
+    (nothing bench 19)))))
 
 -- any line: one that is too long, empty, or not printable is bad; one that begins with `#` is a remark
 unfoldable pub obeyed : Bench → List ℕ → Step

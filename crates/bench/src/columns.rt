@@ -12,6 +12,8 @@ pub(crate) const NOTHING: u8 = 13;
 
 pub(crate) const PASSED: u8 = 14;
 
+pub(crate) const HANDED: u8 = 15;
+
 pub(crate) const LONG: u8 = 16;
 
 pub(crate) const EMPTY: u8 = 17;
@@ -24,9 +26,11 @@ pub(crate) const COUNT: u8 = 20;
 
 pub(crate) const PLACE: u8 = 21;
 
+pub(crate) const HEX: u8 = 22;
+
 pub(crate) const BAD: u8 = 23;
 
-// Where the columns of the cell begin, and how wide a column is.
+// How wide a column is; the box's column begins there.
 pub(crate) const WIDTH: usize = 11;
 
 // Puts an empty column.

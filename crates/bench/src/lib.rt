@@ -11,6 +11,7 @@ ghost use Rattle.bench.specs.Ends.{emptyShelf};
 ghost use Rattle.bench.specs.Script.{obeyed, StepCall};
 ghost use Rattle.bench.specs.Bench.{room as Bench·room, benchStart, start as Bench·start, HeaderCall, HearCall, FinishCall};
 use lines::Heard;
+use lines::Put;
 use link::Receiver;
 use link::Sender;
 use script::Stepped;
@@ -40,8 +41,9 @@ pub struct Play {
     pub bench: Bench,
 }
 
-// The state after an octet, and how many octets its answer has at the front of the output.
+// The refusal of an octet, the state after it, and how many octets its answer has at the front of the output.
 pub struct Told {
+    pub refusal: u8,
     pub play: Play,
     pub written: usize,
 }
@@ -91,17 +93,21 @@ pub fn start() -> Play
     Play { heard, bench }
 }
 
-// Puts the heading at the front of the output, and answers how many octets it has.
-pub fn header(output: &mut [u8]) -> usize
+// Puts the heading at the front of the output.
+pub fn header(output: &mut [u8]) -> Put
     ensures { λ r. ⌜ HeaderCall (now (output .entry)) r (now (output .exit)) ⌝ }
 {
+    let refused = Put {
+        refusal: refusals::ROOM,
+        count: 0,
+    };
     if output.len() < ROOM {
-        return 0;
+        return refused;
     }
     lines::put_text(
         b"phone      box        number     answer     next       text\n",
         output,
-    ).count
+    )
 }
 
 // Hears one octet: a line feed has the line obeyed and begins a new one, any other octet is kept.
@@ -109,13 +115,18 @@ pub fn hear(play: Play, octet: u8, output: &mut [u8]) -> Told
     ensures { λ r. ⌜ HearCall play octet (now (output .entry)) r (now (output .exit)) ⌝ }
 {
     if output.len() < ROOM {
-        return Told { play, written: 0 };
+        return Told {
+            refusal: refusals::ROOM,
+            play,
+            written: 0,
+        };
     }
     if octet == LINE_FEED {
         let stepped = obey_heard(play, output);
         let heard = lines::silence();
         let bench = stepped.bench;
         return Told {
+            refusal: 0,
             play: Play { heard, bench },
             written: stepped.written,
         };
@@ -123,21 +134,33 @@ pub fn hear(play: Play, octet: u8, output: &mut [u8]) -> Told
     let heard = lines::kept(play.heard, octet);
     let bench = play.bench;
     Told {
+        refusal: 0,
         play: Play { heard, bench },
         written: 0,
     }
 }
 
-// The input ends: obeys a last line that has no line end, and answers how many octets its answer has.
-pub fn finish(play: Play, output: &mut [u8]) -> usize
+// The input ends: obeys a last line that has no line end, and puts its answer.
+pub fn finish(play: Play, output: &mut [u8]) -> Put
     ensures { λ r. ⌜ FinishCall play (now (output .entry)) r (now (output .exit)) ⌝ }
 {
+    let refused = Put {
+        refusal: refusals::ROOM,
+        count: 0,
+    };
     if output.len() < ROOM {
-        return 0;
+        return refused;
     }
     let heard = play.heard;
     if heard.count == 0 {
-        return 0;
+        return Put {
+            refusal: 0,
+            count: 0,
+        };
     }
-    obey_heard(play, output).written
+    let stepped = obey_heard(play, output);
+    Put {
+        refusal: 0,
+        count: stepped.written,
+    }
 }

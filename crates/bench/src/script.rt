@@ -5,7 +5,7 @@ ghost use lib.ListN.{length, drop, take};
 ghost use Rattle.lines.specs.Text.{Added};
 ghost use Rattle.bench.specs.Bench.{room as Bench·room};
 ghost use Rattle.bench.specs.Ends.{sealed as Ends·sealed, sealedFrame, lostText, phoneAfter, frameKept};
-ghost use Rattle.bench.specs.Script.{passing, losing, keeping, giving, nothing as Script·nothing, remarking, begins as Script·begins, countOf, placeOf, loseLine, keepLine, giveLine, commanded, obeyed, silentColumns, HandCall, StepCall};
+ghost use Rattle.bench.specs.Script.{passing, losing, keeping, giving, noising, nothing as Script·nothing, remarking, begins as Script·begins, countOf, placeOf, loseLine, keepLine, giveLine, noiseLine, commanded, obeyed, silentColumns, HandCall, StepCall};
 use crate::Bench;
 use crate::Shelf;
 use crate::columns;
@@ -185,6 +185,23 @@ fn give(bench: Bench, k: usize, output: &mut [u8]) -> Stepped
     }
 }
 
+// The box hands octets of its own to the cell.
+fn noise(bench: Bench, octets: &[u8], output: &mut [u8]) -> Stepped
+    requires { ⌜ Bench·room ≤ length (now output) ⌝ }
+    ensures { λ r. ⌜ StepCall (noising bench (now (octets .entry))) (now (output .entry)) r (now (output .exit)) ⌝ }
+{
+    columns::add_word(columns::NOTHING, output, 0);
+    columns::add_word(columns::HANDED, output, columns::WIDTH);
+    let handed = hand(bench.cell, octets, output);
+    let phone = bench.phone;
+    let cell = handed.cell;
+    let shelf = bench.shelf;
+    Stepped {
+        bench: Bench { phone, cell, shelf },
+        written: handed.end,
+    }
+}
+
 // Nothing is done for a bad line.
 fn nothing(bench: Bench, why: u8, output: &mut [u8]) -> Stepped
     requires { ⌜ (why < 24) × (Bench·room ≤ length (now output)) ⌝ }
@@ -304,9 +321,23 @@ fn give_line(bench: Bench, rest: &[u8], output: &mut [u8]) -> Stepped
     nothing(bench, columns::PLACE, output)
 }
 
+// `noise HEX`, by what stands after `noise `.
+fn noise_line(bench: Bench, rest: &[u8], output: &mut [u8]) -> Stepped
+    requires { ⌜ (length (now rest) ≤ 48) × (Bench·room ≤ length (now output)) ⌝ }
+    ensures { λ r. ⌜ StepCall (noiseLine bench (now (rest .entry))) (now (output .entry)) r (now (output .exit)) ⌝ }
+{
+    let mut octets = [0u8; 46];
+    let put = lines::octets_of_hex(rest, &mut octets);
+    if put.refusal != 0 {
+        return nothing(bench, columns::HEX, output);
+    }
+    let count = put.count;
+    noise(bench, &octets[..count], output)
+}
+
 // A line that is a command, by its first word.
 fn command(bench: Bench, line: &[u8], output: &mut [u8]) -> Stepped
-    requires { ⌜ Bench·room ≤ length (now output) ⌝ }
+    requires { ⌜ (length (now line) ≤ 48) × (Bench·room ≤ length (now output)) ⌝ }
     ensures { λ r. ⌜ StepCall (commanded bench (now (line .entry))) (now (output .entry)) r (now (output .exit)) ⌝ }
 {
     if begins(b"pass ", line) {
@@ -320,6 +351,9 @@ fn command(bench: Bench, line: &[u8], output: &mut [u8]) -> Stepped
     }
     if begins(b"give ", line) {
         return give_line(bench, rest(line, 5), output);
+    }
+    if begins(b"noise ", line) {
+        return noise_line(bench, rest(line, 6), output);
     }
     nothing(bench, columns::COMMAND, output)
 }

@@ -2,8 +2,11 @@
 -- Assumes nothing.
 use denote.Ref.{now}
 use mathlib.Core.Path.{sym, _∙_}
-use Rattle.bench.specs.Script.{passWord, loseWord, keepWord, giveWord}
-use Rattle.bench.proofs.Steps.{stepped-as, is-pass, is-lose, is-keep, is-give, is-none}
+use lib.ListN.{length, length-drop}
+use mathlib.Core.Path.{ap}
+use native.Mathlib.Omega.{arith}
+use Rattle.bench.specs.Script.{passWord, loseWord, keepWord, giveWord, noiseWord}
+use Rattle.bench.proofs.Steps.{stepped-as, is-pass, is-lose, is-keep, is-give, is-noise, is-none}
 use borrow.Author.Needs.{needs}
 use Rattle.bench.proofs.script.command.Statement.{statement}
 use Rattle.bench.proofs.script.command.Tie as tie
@@ -104,21 +107,52 @@ returns-4 c =
     (sym (c .before .before .before .before .before .before .begins4 .ensures) ∙ c .before .before .before .before .before .if4 .taken) (c .before .before .before .before .rest4 .ensures))
     (c .before .before .give-line .ensures)
 
-nothing-requires : tie.Need-nothing-requires
-nothing-requires c κs = search needs
+slice-aggregate-begins-5 : tie.Need-slice-aggregate-begins-5
+slice-aggregate-begins-5 c = search needs
+
+begins-requires-5 : tie.Need-begins-requires-5
+begins-requires-5 c κs = search needs
+
+rest-requires-5 : tie.Need-rest-requires-5
+rest-requires-5 c κs = search needs
+
+noise-line-requires : tie.Need-noise-line-requires
+noise-line-requires c κs =
+    let at-start = c .before .before .before .before .before .before .before .before .before .before .before .before .before .before .before .before .before .before .before in
+    let short = at-start .pre .0 in
+    (omega (arith, ap length (c .before .rest5 .ensures) ∙ length-drop 6 (now (at-start .args .line))), search needs)
 
 same-length-5 : tie.Need-same-length-5
 same-length-5 c = search needs
 
 returns-5 : tie.Need-returns-5
-unfolding passWord loseWord keepWord giveWord
+unfolding passWord loseWord keepWord giveWord noiseWord
 returns-5 c =
-    let at-start = c .before .before .before .before .before .before .before .before .before .before .before .before .before .before .before .before .before .before in
+    let at-start = c .before .before .before .before .before .before .before .before .before .before .before .before .before .before .before .before .before .before .before .before .before .before in
     stepped-as
-    (is-none (at-start .args .bench) (now (at-start .args .line)) (sym (c .before .before .before .before .before .before .before .before .before .before .before .before .before .before .begins .ensures) ∙ c .before .before .before .before .before .before .before .before .before .before .before .before .before .if1 .left)
-    (sym (c .before .before .before .before .before .before .before .before .before .before .before .begins2 .ensures) ∙ c .before .before .before .before .before .before .before .before .before .before .if2 .left)
-    (sym (c .before .before .before .before .before .before .before .before .begins3 .ensures) ∙ c .before .before .before .before .before .before .before .if3 .left)
-    (sym (c .before .before .before .before .before .begins4 .ensures) ∙ c .before .before .before .before .if4 .left))
+    (is-noise (at-start .args .bench) (now (at-start .args .line)) (sym (c .before .before .before .before .before .before .before .before .before .before .before .before .before .before .before .before .before .before .begins .ensures) ∙ c .before .before .before .before .before .before .before .before .before .before .before .before .before .before .before .before .before .if1 .left)
+    (sym (c .before .before .before .before .before .before .before .before .before .before .before .before .before .before .before .begins2 .ensures) ∙ c .before .before .before .before .before .before .before .before .before .before .before .before .before .before .if2 .left)
+    (sym (c .before .before .before .before .before .before .before .before .before .before .before .before .begins3 .ensures) ∙ c .before .before .before .before .before .before .before .before .before .before .before .if3 .left)
+    (sym (c .before .before .before .before .before .before .before .before .before .begins4 .ensures) ∙ c .before .before .before .before .before .before .before .before .if4 .left)
+    (sym (c .before .before .before .before .before .before .begins5 .ensures) ∙ c .before .before .before .before .before .if5 .taken) (c .before .before .before .before .rest5 .ensures))
+    (c .before .before .noise-line .ensures)
+
+nothing-requires : tie.Need-nothing-requires
+nothing-requires c κs = search needs
+
+same-length-6 : tie.Need-same-length-6
+same-length-6 c = search needs
+
+returns-6 : tie.Need-returns-6
+unfolding passWord loseWord keepWord giveWord noiseWord
+returns-6 c =
+    let at-start = c .before .before .before .before .before .before .before .before .before .before .before .before .before .before .before .before .before .before .before .before .before in
+    stepped-as
+    (is-none (at-start .args .bench) (now (at-start .args .line)) (sym (c .before .before .before .before .before .before .before .before .before .before .before .before .before .before .before .before .before .begins .ensures) ∙ c .before .before .before .before .before .before .before .before .before .before .before .before .before .before .before .before .if1 .left)
+    (sym (c .before .before .before .before .before .before .before .before .before .before .before .before .before .before .begins2 .ensures) ∙ c .before .before .before .before .before .before .before .before .before .before .before .before .before .if2 .left)
+    (sym (c .before .before .before .before .before .before .before .before .before .before .before .begins3 .ensures) ∙ c .before .before .before .before .before .before .before .before .before .before .if3 .left)
+    (sym (c .before .before .before .before .before .before .before .before .begins4 .ensures) ∙ c .before .before .before .before .before .before .before .if4 .left)
+    (sym (c .before .before .before .before .before .begins5 .ensures) ∙ c .before .before .before .before .if5 .left))
     (c .before .before .nothing .ensures)
 
 pub command-spec : {M : Type 1} → statement M
@@ -149,6 +183,12 @@ command-spec =
     give-line-requires
     same-length-4
     returns-4
-    nothing-requires
+    slice-aggregate-begins-5
+    begins-requires-5
+    rest-requires-5
+    noise-line-requires
     same-length-5
-    returns-5)
+    returns-5
+    nothing-requires
+    same-length-6
+    returns-6)
