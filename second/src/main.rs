@@ -5,6 +5,7 @@ mod bits;
 mod call;
 mod cases;
 mod check;
+mod demo;
 mod fast;
 mod gates;
 mod kasumi;
@@ -29,13 +30,16 @@ const USAGE: &str = "\
 second stream          the expected output of `stream` for standard input
 second call            the expected output of `call` for standard input
 second walk            the expected output of `walk` for standard input
+second demo            the expected output of `demo` for standard input
 second cases stream    a test input for `stream`
 second cases call      a test input for `call`
 second cases walk      a test input for `walk`
+second cases demo      a test input for `demo`
 second cases sweep     an input for `call`: V from 0 to 600 against every N
 second huge stream     an input for `stream` with lines of a megabyte
 second huge call       an input for `call` with lines of a megabyte
 second huge walk       an input for `walk` with lines of a megabyte, up to the last number
+second huge demo       an input for `demo` with lines of a megabyte
 second vectors DIR     a call and its published answer for every set of DIR
 second bench M COUNT   the exclusive or of COUNT outputs of GEA4, M octets each";
 
@@ -56,13 +60,16 @@ fn output(words: &[&str]) -> Result<Vec<u8>, String> {
         ["stream"] => Ok(lines::answers(&input()?, stream::answer).into()),
         ["call"] => Ok(lines::answers(&input()?, call::answer).into()),
         ["walk"] => Ok(walk::output(&input()?).into()),
+        ["demo"] => Ok(demo::output(&input()?)),
         ["cases", "stream"] => Ok(cases::stream::input().into()),
         ["cases", "call"] => Ok(cases::call::input().into()),
         ["cases", "walk"] => Ok(cases::walk::input().into()),
+        ["cases", "demo"] => Ok(cases::demo::input().into()),
         ["cases", "sweep"] => Ok((cases::link::numbers::sweep().join("\n") + "\n").into()),
         ["huge", "stream"] => Ok(cases::huge::stream()),
         ["huge", "call"] => Ok(cases::huge::call()),
         ["huge", "walk"] => Ok(cases::huge::walk()),
+        ["huge", "demo"] => Ok(cases::huge::demo()),
         ["vectors", folder] => Ok(check::report(Path::new(folder))?.into()),
         ["bench", m, count] => bench(m, count),
         _ => Err(USAGE.to_string()),

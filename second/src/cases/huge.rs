@@ -27,6 +27,10 @@ pub fn walk() -> Vec<u8> {
     around(&lines.join("\n"))
 }
 
+pub fn demo() -> Vec<u8> {
+    around("pass one line between two that are too long")
+}
+
 fn around(good_lines: &str) -> Vec<u8> {
     let mut random = Random::seeded(3);
     let mut input = vec![b'0'; MEGABYTE];
@@ -41,7 +45,7 @@ fn around(good_lines: &str) -> Vec<u8> {
 
 #[cfg(test)]
 mod tests {
-    use crate::{call, lines, stream, walk};
+    use crate::{call, demo, lines, stream, walk};
 
     #[test]
     fn the_good_line_between_two_huge_ones_is_answered() {
@@ -50,6 +54,17 @@ mod tests {
         let octets = octets.expect("both huge lines are bad");
         assert_eq!(octets.len(), 18);
         assert_eq!(lines::answers(&super::call(), call::answer), format!("?\n0 {octets}AA\n?\n"));
+    }
+
+    #[test]
+    fn the_frame_between_two_huge_lines_arrives() {
+        let output = String::from_utf8(demo::output(&super::demo())).expect("ASCII");
+        let lines: Vec<&str> = output.lines().collect();
+        assert_eq!(lines.len(), 4);
+        assert!(
+            lines[1].starts_with("?          long ") && lines[3].starts_with("?          long ")
+        );
+        assert!(lines[2].starts_with("0          passed "));
     }
 
     #[test]

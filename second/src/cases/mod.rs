@@ -2,6 +2,7 @@
 
 pub mod call;
 mod call_forms;
+pub mod demo;
 pub mod huge;
 pub mod link;
 pub mod stream;

@@ -1,0 +1,7 @@
+-- The laws of columns, of the ends, of the shelf and of the lines of a script, what a run of the calls writes, and what the contracts determine.
+pub mod Determined
+pub mod Ends
+pub mod Kept
+pub mod Run
+pub mod Steps
+pub mod Texts

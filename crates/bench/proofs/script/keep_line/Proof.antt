@@ -1,0 +1,102 @@
+-- `bench::script::keep_line` meets its contract: the tests of the place and of the space pick the step.
+-- Assumes nothing.
+use Prim.Native.Nat.{_-_}
+use denote.Ref.{now}
+use lib.ListN.{length, drop, length-drop}
+use lib.Seq.{take-all}
+use native.Mathlib.Omega.{arith}
+use Rattle.bench.proofs.Steps.{stepped-as, keep-short, keep-nowhere, keep-there, keep-unspaced}
+use borrow.Author.Needs.{needs}
+use Rattle.bench.proofs.script.keep_line.Statement.{statement}
+use Rattle.bench.proofs.script.keep_line.Tie as tie
+
+nothing-requires : tie.Need-nothing-requires
+nothing-requires c κs = search needs
+
+same-length : tie.Need-same-length
+same-length c = search needs
+
+returns : tie.Need-returns
+returns c =
+    let at-start = c .before .before .before .before .before .before .before in
+    stepped-as (keep-short (at-start .args .bench) (now (at-start .args .rest)) (c .before .before .before .before .if1 .taken)) (c .before .before .nothing .ensures)
+
+shared-slice-read-place-of : tie.Need-shared-slice-read-place-of
+shared-slice-read-place-of c = search needs
+
+place-of-requires : tie.Need-place-of-requires
+place-of-requires c κs = search needs
+
+nothing-requires-2 : tie.Need-nothing-requires-2
+nothing-requires-2 c κs = search needs
+
+same-length-2 : tie.Need-same-length-2
+same-length-2 c = search needs
+
+returns-2 : tie.Need-returns-2
+returns-2 c =
+    let at-start = c .before .before .before .before .before .before .before .before .before .before in
+    stepped-as (keep-nowhere (at-start .args .bench) (now (at-start .args .rest)) (c .before .before .before .before .before .place-of .ensures) (c .before .before .before .before .before .before .before .if1 .left) (c .before .before .before .before .if2 .taken))
+    (c .before .before .nothing2 .ensures)
+
+shared-slice-read-if3 : tie.Need-shared-slice-read-if3
+shared-slice-read-if3 c = search needs
+
+sub-keep : tie.Need-sub-keep
+sub-keep c = search needs
+
+part-keep-start : tie.Need-part-keep-start
+part-keep-start c = search needs
+
+part-keep-end : tie.Need-part-keep-end
+part-keep-end c = search needs
+
+keep-requires : tie.Need-keep-requires
+keep-requires c κs = search needs
+
+same-length-3 : tie.Need-same-length-3
+same-length-3 c = search needs
+
+returns-3 : tie.Need-returns-3
+returns-3 c =
+    let at-start = c .before .before .before .before .before .before .before .before .before .before .before .before .before in
+    let rest = now (at-start .args .rest) in
+    stepped-as
+    (keep-there (at-start .args .bench) rest (c .before .before .before .before .before .before .before .before .place-of .ensures) (c .before .before .before .before .before .before .before .before .before .before .if1 .left) (c .before .before .before .before .before .before .before .if2 .left) (c .before .before .before .before .before .if3 .taken)
+    (take-all (length rest - 2) (drop 2 rest) (simp length-drop (omega arith))))
+    (c .before .before .keep .ensures)
+
+nothing-requires-3 : tie.Need-nothing-requires-3
+nothing-requires-3 c κs = search needs
+
+same-length-4 : tie.Need-same-length-4
+same-length-4 c = search needs
+
+returns-4 : tie.Need-returns-4
+returns-4 c =
+    let at-start = c .before .before .before .before .before .before .before .before .before .before .before .before in
+    stepped-as (keep-unspaced (at-start .args .bench) (now (at-start .args .rest)) (c .before .before .before .before .before .before .before .place-of .ensures) (c .before .before .before .before .before .before .before .before .before .if1 .left) (c .before .before .before .before .before .before .if2 .left) (c .before .before .before .before .if3 .left))
+    (c .before .before .nothing3 .ensures)
+
+pub keep-line-spec : {M : Type 1} → statement M
+keep-line-spec =
+    tie.close
+    (tie.spec
+    nothing-requires
+    same-length
+    returns
+    shared-slice-read-place-of
+    place-of-requires
+    nothing-requires-2
+    same-length-2
+    returns-2
+    shared-slice-read-if3
+    sub-keep
+    part-keep-start
+    part-keep-end
+    keep-requires
+    same-length-3
+    returns-3
+    nothing-requires-3
+    same-length-4
+    returns-4)

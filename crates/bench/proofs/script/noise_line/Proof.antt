@@ -1,0 +1,63 @@
+-- `bench::script::noise_line` meets its contract: pairs of hex digits are octets.
+-- Assumes nothing.
+use denote.Ref.{now}
+use lib.Seq.{length-take-le}
+use mathlib.Core.Path.{refl, sym}
+use Rattle.lines.proofs.Within.{put-within}
+use Rattle.bench.proofs.Steps.{stepped-as, noise-none, noise-some}
+use borrow.Author.Needs.{needs}
+use Rattle.bench.proofs.script.noise_line.Statement.{statement}
+use Rattle.bench.proofs.script.noise_line.Tie as tie
+
+slice-aggregate-octets-of-hex : tie.Need-slice-aggregate-octets-of-hex
+slice-aggregate-octets-of-hex c = search needs
+
+octets-of-hex-requires : tie.Need-octets-of-hex-requires
+octets-of-hex-requires c κs = search needs
+
+nothing-requires : tie.Need-nothing-requires
+nothing-requires c κs = search needs
+
+same-length : tie.Need-same-length
+same-length c = search needs
+
+returns : tie.Need-returns
+returns c =
+    let at-octets = c .before .before .before .before .before .before .before in
+    let at-start = at-octets .before .before .before .before in
+    stepped-as (noise-none (at-start .args .bench) (now (at-start .args .rest)) (at-start .pre .0) refl (at-octets .octets-of-hex .ensures) (c .before .before .before .before .if1 .taken))
+    (c .before .before .nothing .ensures)
+
+array-share-prefix-octets : tie.Need-array-share-prefix-octets
+array-share-prefix-octets c = put-within (c .before .before .before .octets-of-hex .ensures)
+
+slice-aggregate-noise : tie.Need-slice-aggregate-noise
+slice-aggregate-noise c = sym (length-take-le _ _ (put-within (c .before .before .before .before .octets-of-hex .ensures)))
+
+noise-requires : tie.Need-noise-requires
+noise-requires c κs = search needs
+
+same-length-2 : tie.Need-same-length-2
+same-length-2 c = search needs
+
+returns-2 : tie.Need-returns-2
+returns-2 c =
+    let at-octets = c .before .before .before .before .before .before .before .before in
+    let at-start = at-octets .before .before .before .before in
+    stepped-as (noise-some (at-start .args .bench) (now (at-start .args .rest)) (at-start .pre .0) refl (at-octets .octets-of-hex .ensures) (c .before .before .before .before .before .if1 .left))
+    (c .before .before .noise .ensures)
+
+pub noise-line-spec : {M : Type 1} → statement M
+noise-line-spec =
+    tie.close
+    (tie.spec
+    slice-aggregate-octets-of-hex
+    octets-of-hex-requires
+    nothing-requires
+    same-length
+    returns
+    array-share-prefix-octets
+    slice-aggregate-noise
+    noise-requires
+    same-length-2
+    returns-2)

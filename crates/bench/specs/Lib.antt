@@ -1,0 +1,4 @@
+pub mod Bench
+pub mod Columns
+pub mod Ends
+pub mod Script
