@@ -16,7 +16,10 @@ use Rattle.requests.proofs.Determined.{hear-determined, hear-refused-keeps, fin
 use Rattle.numbering.specs.declared.Numbering.{Numbering}
 use Rattle.walks.specs.Walk.{walkRules, room, header, standing as Walks·standing}
 use Rattle.walks.proofs.Determined.{hear-determined as Walks·hear-determined, hear-refused-keeps as Walks·hear-refused-keeps, finish-determined as Walks·finish-determined, finish-refused-keeps as Walks·finish-refused-keeps}
-use Rattle.promises.specs.Calls.{decimalCall, hexadecimalCall, octetsOfHexCall, hexOfOctetsCall, decimalOfNumberCall, putTextCall, requestsHearCall, requestsFinishCall, walksHeaderCall, walksHearCall, walksFinishCall}
+use Rattle.bench.specs.declared.Bench.{Bench}
+use Rattle.bench.specs.Bench.{benchRules, room as Bench·room, heading, standing as Bench·standing}
+use Rattle.bench.proofs.Determined.{hear-determined as Bench·hear-determined, hear-refused-keeps as Bench·hear-refused-keeps, finish-determined as Bench·finish-determined, finish-refused-keeps as Bench·finish-refused-keeps}
+use Rattle.promises.specs.Calls.{benchHeaderCall, benchHearCall, benchFinishCall, decimalCall, hexadecimalCall, octetsOfHexCall, hexOfOctetsCall, decimalOfNumberCall, putTextCall, requestsHearCall, requestsFinishCall, walksHeaderCall, walksHearCall, walksFinishCall}
 use Rattle.promises.proofs.Forms.{Both, isOrder, from-table, only-then, puts-text-both}
 
 -- the one refusal of want of room is an order
@@ -169,5 +172,55 @@ walks-finish-both = record {
         let same = Walks·finish-determined said said′ in
         λ i. record { put = same .0 i; output = same .1 i };
     refuses = λ given back said. only-then (roomOrder room (given .output)) (room-order _ _) (said .said-is .refusal-is);
+  };
+}
+
+pub bench-header-both : Both benchHeaderCall
+bench-header-both = puts-text-both {Given = Unit {0}} (λ given. roomOrder Bench·room) (λ given. heading) (λ given. room-order Bench·room)
+
+pub bench-hear-both : Both benchHearCall
+bench-hear-both = record {
+  answers = record {
+    gives = λ given.
+        let refusal : ℕ = first (roomOrder Bench·room (given .output)) in
+        let text : List ℕ = said benchRules (Bench·standing (given .play)) (given .octet) in
+        let later : Standing Bench = cond (eqb refusal 0) (hearing benchRules (Bench·standing (given .play)) (given .octet)) (Bench·standing (given .play)) in
+        record {
+          back = record { told = record { refusal = refusal; play = record { heard = later .heard; bench = later .state }; written = cond (eqb refusal 0) (length text) 0 }; output = lent refusal text (given .output) };
+          said = record { said-is = record { refusal-is = refl; count-is = refl; output-is = refl }; then-is = refl };
+        };
+    from-the-table = λ given back said. from-table (roomOrder Bench·room (given .output)) (room-order _ _) (said .said-is .refusal-is);
+    keeps = λ given back said refused.
+        let kept = Bench·hear-refused-keeps said refused in
+        λ i. (kept .0 i, kept .2 i);
+    zeros = λ given back said refused. (Bench·hear-refused-keeps said refused .1, tt);
+  };
+  determined = record {
+    one-outcome = λ given back back′ said said′.
+        let same = Bench·hear-determined said said′ in
+        λ i. record { told = same .0 i; output = same .1 i };
+    refuses = λ given back said. only-then (roomOrder Bench·room (given .output)) (room-order _ _) (said .said-is .refusal-is);
+  };
+}
+
+pub bench-finish-both : Both benchFinishCall
+bench-finish-both = record {
+  answers = record {
+    gives = λ given.
+        let refusal : ℕ = first (roomOrder Bench·room (given .output)) in
+        let text : List ℕ = lastSaid benchRules (Bench·standing (given .play)) in
+        record {
+          back = record { put = record { refusal = refusal; count = cond (eqb refusal 0) (length text) 0 }; output = lent refusal text (given .output) };
+          said = record { said-is = record { refusal-is = refl; count-is = refl; output-is = refl } };
+        };
+    from-the-table = λ given back said. from-table (roomOrder Bench·room (given .output)) (room-order _ _) (said .said-is .refusal-is);
+    keeps = λ given back said refused. Bench·finish-refused-keeps said refused .1;
+    zeros = λ given back said refused. (Bench·finish-refused-keeps said refused .0, tt);
+  };
+  determined = record {
+    one-outcome = λ given back back′ said said′.
+        let same = Bench·finish-determined said said′ in
+        λ i. record { put = same .0 i; output = same .1 i };
+    refuses = λ given back said. only-then (roomOrder Bench·room (given .output)) (room-order _ _) (said .said-is .refusal-is);
   };
 }

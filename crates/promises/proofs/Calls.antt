@@ -4,7 +4,7 @@ use Rattle.promises.specs.PublicCall.{PublicCall, All}
 use Rattle.promises.specs.Calls.{publicCalls}
 use Rattle.promises.proofs.Forms.{Both, function-both}
 use Rattle.promises.proofs.CiphersAndLink.{cut-both, kasumi-both, kgcore-both, gsm-both, ecsd-both, gea4-both, number-both, look-refusal-both, put-header-both, open-sender-both, open-receiver-both, seal-both, open-both}
-use Rattle.promises.proofs.AboutText.{decimal-both, hexadecimal-both, octets-of-hex-both, hex-of-octets-both, decimal-of-number-both, put-text-both, requests-hear-both, requests-finish-both, walks-header-both, walks-hear-both, walks-finish-both}
+use Rattle.promises.proofs.AboutText.{decimal-both, hexadecimal-both, octets-of-hex-both, hex-of-octets-both, decimal-of-number-both, put-text-both, requests-hear-both, requests-finish-both, walks-header-both, walks-hear-both, walks-finish-both, bench-header-both, bench-hear-both, bench-finish-both}
 
 pub all-both : All Both publicCalls
 all-both = (
@@ -69,7 +69,7 @@ all-both = (
                                                             requests-hear-both,
                                                             (
                                                               requests-finish-both,
-                                                              (function-both _, (walks-header-both, (walks-hear-both, (walks-finish-both, tt)))),
+                                                              (function-both _, (walks-header-both, (walks-hear-both, (walks-finish-both, (function-both _, (bench-header-both, (bench-hear-both, (bench-finish-both, tt)))))))),
                                                             ),
                                                           ),
                                                         ),

@@ -34,6 +34,9 @@ use Rattle.requests.specs.Stream.{HearCall as Requests·HearCall, FinishCall as
 use Rattle.walks.specs.declared.Walk.{Walk}
 use Rattle.walks.specs.declared.Told.{Told as Walks·Told}
 use Rattle.walks.specs.Walk.{room, header, start as Walks·start, HearCall as Walks·HearCall, FinishCall as Walks·FinishCall}
+use Rattle.bench.specs.declared.Play.{Play}
+use Rattle.bench.specs.declared.Told.{Told as Bench·Told}
+use Rattle.bench.specs.Bench.{room as Bench·room, heading, start as Bench·start, HearCall as Bench·HearCall, FinishCall as Bench·FinishCall}
 use Rattle.promises.specs.PublicCall.{PublicCall, function, puts, putsTwo, putsText}
 
 -- octets::size
@@ -318,6 +321,42 @@ walksFinishCall = record {
   after = λ back. back .output;
 }
 
+-- bench::start
+abbrev pub benchStartCall : PublicCall
+benchStartCall = function {Given = Unit {0}} (λ given. Bench·start)
+
+-- bench::header
+abbrev pub benchHeaderCall : PublicCall
+benchHeaderCall = putsText {Given = Unit {0}} (λ given. roomOrder Bench·room) (λ given. heading)
+
+-- bench::hear
+abbrev pub benchHearCall : PublicCall
+benchHearCall = record {
+  Given = record { play : Play; octet : ℕ; output : List ℕ };
+  Back = record { told : Bench·Told; output : List ℕ };
+  says = λ given back. Bench·HearCall (given .play) (given .octet) (given .output) (back .told) (back .output);
+  order = λ given. roomOrder Bench·room (given .output);
+  refusal = λ back. back .told .refusal;
+  numbers = λ back. back .told .written ∷ [];
+  Lent = Play × List ℕ;
+  before = λ given. (given .play, given .output);
+  after = λ back. (back .told .play, back .output);
+}
+
+-- bench::finish
+abbrev pub benchFinishCall : PublicCall
+benchFinishCall = record {
+  Given = record { play : Play; output : List ℕ };
+  Back = record { put : Put; output : List ℕ };
+  says = λ given back. Bench·FinishCall (given .play) (given .output) (back .put) (back .output);
+  order = λ given. roomOrder Bench·room (given .output);
+  refusal = λ back. back .put .refusal;
+  numbers = λ back. back .put .count ∷ [];
+  Lent = List ℕ;
+  before = λ given. given .output;
+  after = λ back. back .output;
+}
+
 abbrev pub publicCalls : List PublicCall
 publicCalls =
     sizeCall ∷ firstBitsCall ∷ cutCall ∷
@@ -327,4 +366,5 @@ publicCalls =
     openSenderCall ∷ openReceiverCall ∷ sealCall ∷ openCall ∷
     decimalCall ∷ hexadecimalCall ∷ octetsOfHexCall ∷ hexOfOctetsCall ∷ decimalOfNumberCall ∷ putTextCall ∷ silenceCall ∷ tooLongCall ∷ keptCall ∷
     requestsStartCall ∷ requestsHearCall ∷ requestsFinishCall ∷
-    walksStartCall ∷ walksHeaderCall ∷ walksHearCall ∷ walksFinishCall ∷ []
+    walksStartCall ∷ walksHeaderCall ∷ walksHearCall ∷ walksFinishCall ∷
+    benchStartCall ∷ benchHeaderCall ∷ benchHearCall ∷ benchFinishCall ∷ []

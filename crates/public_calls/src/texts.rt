@@ -1,5 +1,6 @@
 // The calls about text.
-ghost use Rattle.promises.specs.Calls.{decimalCall, hexadecimalCall, octetsOfHexCall, hexOfOctetsCall, decimalOfNumberCall, putTextCall, silenceCall, tooLongCall, keptCall, requestsStartCall, requestsHearCall, requestsFinishCall, walksStartCall, walksHeaderCall, walksHearCall, walksFinishCall};
+ghost use Rattle.promises.specs.Calls.{decimalCall, hexadecimalCall, octetsOfHexCall, hexOfOctetsCall, decimalOfNumberCall, putTextCall, silenceCall, tooLongCall, keptCall, requestsStartCall, requestsHearCall, requestsFinishCall, walksStartCall, walksHeaderCall, walksHearCall, walksFinishCall, benchStartCall, benchHeaderCall, benchHearCall, benchFinishCall};
+use bench::Play;
 use lines::Heard;
 use lines::Number;
 use lines::Put;
@@ -99,4 +100,28 @@ fn walks_finish(walk: Walk, output: &mut [u8]) -> Put
     ensures { λ r. ⌜ walksFinishCall .says (record { walk = walk; output = now (output .entry) }) (record { put = r; output = now (output .exit) }) ⌝ }
 {
     walks::finish(walk, output)
+}
+
+fn bench_start() -> Play
+    ensures { λ r. ⌜ benchStartCall .says tt r ⌝ }
+{
+    bench::start()
+}
+
+fn bench_header(output: &mut [u8]) -> Put
+    ensures { λ r. ⌜ benchHeaderCall .says (record { inputs = tt; output = now (output .entry) }) (record { refusal = r .refusal; count = r .count; output = now (output .exit) }) ⌝ }
+{
+    bench::header(output)
+}
+
+fn bench_hear(play: Play, octet: u8, output: &mut [u8]) -> bench::Told
+    ensures { λ r. ⌜ benchHearCall .says (record { play = play; octet = octet; output = now (output .entry) }) (record { told = r; output = now (output .exit) }) ⌝ }
+{
+    bench::hear(play, octet, output)
+}
+
+fn bench_finish(play: Play, output: &mut [u8]) -> Put
+    ensures { λ r. ⌜ benchFinishCall .says (record { play = play; output = now (output .entry) }) (record { put = r; output = now (output .exit) }) ⌝ }
+{
+    bench::finish(play, output)
 }
