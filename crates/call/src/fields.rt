@@ -3,9 +3,8 @@ ghost use mathlib.Core.Path.{_≡_};
 ghost use Prim.Native.Nat.{_≤_};
 ghost use lib.ListN.{length};
 ghost use Rattle.io.specs.Counts.{Counts};
-use lines::Number;
 
-// A number of 8, of 16 and of 32 bits.
+// A number of 8, of 16, of 32 and of 64 bits.
 pub(crate) struct Octet {
     pub ok: bool,
     pub value: u8,
@@ -19,6 +18,11 @@ pub(crate) struct Word {
 pub(crate) struct Long {
     pub ok: bool,
     pub value: u32,
+}
+
+pub(crate) struct Number {
+    pub ok: bool,
+    pub value: u64,
 }
 
 // Octets of a line, of which `count` are meant.
@@ -90,7 +94,14 @@ fn end_of(line: &[u8], start: usize) -> usize
 
 // A number, decimal or hex after 0x.
 pub(crate) fn number64(line: &[u8], k: usize) -> Number {
-    let text = field(line, k);
+    let read = read_number(field(line, k));
+    Number {
+        ok: read.refusal == 0,
+        value: read.value,
+    }
+}
+
+fn read_number(text: &[u8]) -> lines::Number {
     if 2 < text.len() {
         if text[0] == b'0' {
             if text[1] == b'x' {
@@ -174,7 +185,7 @@ pub(crate) fn octets_field(line: &[u8], k: usize) -> Octets
     }
     let put = lines::octets_of_hex(text, &mut octets);
     Octets {
-        ok: put.ok & (text.len() != 0),
+        ok: (put.refusal == 0) & (text.len() != 0),
         octets,
         count: put.count,
     }

@@ -4,21 +4,17 @@ use Prim.Native.Nat.{ℕ, _+_, _-_, _≤_, _<_}
 use native.Mathlib.Nat.{zero-add}
 use native.Mathlib.Omega.{arith}
 use mathlib.Core.Path.{_≡_, refl, sym, ap, ap₂, _∙_}
-use mathlib.Core.Bool.{Bool, true}
 use mathlib.Core.List.{List, [], _∷_, _++_, append-assoc, append-nil}
 use lib.ListN.{length, take, drop, set, length-append, length-drop, drop-of-length-le}
 use lib.Seq.{sets, drop-drop, length-take-le, take-length, take-append-seam, drop-append-add}
-use Rattle.lines.specs.Text.{front, PutCall, Answered, Added}
-use Rattle.lines.proofs.Determined.{put-read, put-fits}
-use Rattle.lines.proofs.Text.{front-store, stored-front, take-front}
-
--- what is written is the answer
-pub written-answer : {text before : List ℕ} {written : ℕ} {after : List ℕ} → Answered text before written after → take written after ≡ text
-written-answer {text} {before} put = ap₂ (λ (n : ℕ) (l : List ℕ). take n l) (put .written-is) (put .output-is) ∙ take-front text before
+use Rattle.refusals.specs.Refusal.{lent}
+use Rattle.lines.specs.Text.{TextCall, Answered, Added}
+use Rattle.lines.proofs.Determined.{put-read, room-fits}
+use Rattle.lines.proofs.Text.{front-store, stored-front}
 
 -- nothing is written
 pub answered-nothing : (before : List ℕ) → Answered [] before 0 before
-unfolding front
+unfolding lent
 answered-nothing before = record { written-is = refl; output-is = refl }
 
 -- octets stored one after the other
@@ -26,16 +22,16 @@ pub answered-stored : (text before : List ℕ) (written : ℕ) → written ≡ l
 answered-stored text before written long room = record { written-is = long; output-is = stored-front text before room }
 
 -- a text that is the answer, put by a call that had room
-pub answered-put : {text before : List ℕ} {ok : Bool} {count : ℕ} {after answer : List ℕ}
-    → PutCall true text before ok count after → length text ≤ length before → text ≡ answer → Answered answer before count after
-answered-put {before = before} call room is =
-    let put = put-read call (put-fits call refl room) in
-    record { written-is = put .1 ∙ ap length is; output-is = put .2 ∙ ap (λ (l : List ℕ). front l before) is }
+pub answered-put : {text before : List ℕ} {refusal count : ℕ} {after answer : List ℕ}
+    → TextCall text before refusal count after → length text ≤ length before → text ≡ answer → Answered answer before count after
+answered-put {text} {before} call room is =
+    let put = put-read call (room-fits (length text) call room) in
+    record { written-is = put .0 ∙ ap length is; output-is = put .1 ∙ ap (λ (l : List ℕ). lent 0 l before) is }
 
 -- one octet more
 pub answered-octet : {text before : List ℕ} {size : ℕ} {after : List ℕ} (octet : ℕ)
     → Answered text before size after → length text < length before → Answered (text ++ octet ∷ []) before (size + 1) (set after size octet)
-unfolding front
+unfolding lent
 answered-octet {text} {before} {size} {after} octet put room = record {
   written-is = simp length-append (omega (arith, put .written-is));
   output-is =
@@ -47,20 +43,20 @@ answered-octet {text} {before} {size} {after} octet put room = record {
 -- ---- a text from a place on
 
 -- a text put at the front of what lies from the place on, which is lent as `&mut output[place..]`
-pub added-put : (before : List ℕ) (place : ℕ) {text : List ℕ} {ok : Bool} {count : ℕ} {last : List ℕ}
-    → PutCall true text (take (length before - place) (drop place before)) ok count last → place + length text ≤ length before
+pub added-put : (before : List ℕ) (place : ℕ) {text : List ℕ} {refusal count : ℕ} {last : List ℕ}
+    → TextCall text (take (length before - place) (drop place before)) refusal count last → place + length text ≤ length before
     → Added text before place (place + count) (take place before ++ (last ++ drop (length before - place) (drop place before)))
-unfolding front
+unfolding lent
 added-put before place {text} call room =
     let from : length (drop place before) ≡ length before - place = length-drop place before in
     let whole : take (length before - place) (drop place before) ≡ drop place before = ap (λ (n : ℕ). take n (drop place before)) (sym from) ∙ take-length (drop place before) in
-    let put = put-read call (put-fits call refl (rw whole (omega arith))) in
+    let put = put-read call (room-fits (length text) call (rw whole (omega arith))) in
     record {
-      end-is = ap (λ (n : ℕ). place + n) (put .1);
+      end-is = ap (λ (n : ℕ). place + n) (put .0);
       output-is =
           ap (λ (l : List ℕ). take place before ++ l)
-          (ap₂ (λ (a b : List ℕ). a ++ b) (put .2 ∙ ap (front text) whole) (drop-of-length-le (drop place before) {i = length before - place} (omega arith))
-          ∙ append-nil (front text (drop place before))
+          (ap₂ (λ (a b : List ℕ). a ++ b) (put .1 ∙ ap (lent 0 text) whole) (drop-of-length-le (drop place before) {i = length before - place} (omega arith))
+          ∙ append-nil (lent 0 text (drop place before))
           ∙ ap (λ (l : List ℕ). text ++ l) (drop-drop (length text) place before));
     }
 
@@ -87,7 +83,7 @@ added-octet {text} {before} {place} {end} {after} octet added room =
 
 -- from place 0 on it is an answer
 pub answered-added : {text before : List ℕ} {end : ℕ} {after : List ℕ} → Added text before 0 end after → Answered text before end after
-unfolding front
+unfolding lent
 answered-added {text} {before} added = record {
   written-is = omega (arith, added .end-is);
   output-is = added .output-is ∙ ap (λ (n : ℕ). text ++ drop n before) (zero-add (length text));
@@ -96,7 +92,7 @@ answered-added {text} {before} added = record {
 -- and from where an answer ends it goes on with it
 pub answered-more : {text more before : List ℕ} {size end : ℕ} {middle after : List ℕ}
     → Answered text before size middle → Added more middle size end after → Answered (text ++ more) before end after
-unfolding front
+unfolding lent
 answered-more {text} {more} {before} {size} {end} {middle} {after} put added =
     let past : List ℕ = drop (length text) before in
     record {

@@ -16,10 +16,6 @@ use Rattle.lines.specs.Digits.{within, digitValue, allDigits, numberFrom
 
 -- ---- tests, tests joined, and a test of a range
 
--- a test has one value
-pub clash : {b : Bool} → b ≡ true → b ≡ false → ⊥
-clash holds fails = subst T (sym holds ∙ fails) tt
-
 -- a choice by a test: what is shown on each side is shown
 pub by-test : {P : Type 0} (b : Bool) → (b ≡ true → P) → (b ≡ false → P) → P
 by-test true held failed = held refl

@@ -1,4 +1,4 @@
--- The laws of texts that are put at the front of an output: `front`, `hexText`, `hexOctets`.
+-- The laws of texts that are put at the front of an output: `roomOrder`, `hexText`, `hexOctets`.
 -- Assumes nothing.
 use Prim.Native.Nat.{ℕ, zero, suc, _+_, _*_, _/_, _%_, _≤_, _<_}
 use native.Mathlib.Nat.{zero-add, not-suc-le-zero, le-of-suc-le-suc}
@@ -6,14 +6,15 @@ use native.Mathlib.Numerals.{add-one}
 use native.Mathlib.Omega.{arith}
 use mathlib.Core.Path.{_≡_, refl, sym, ap, ap₂, _∙_}
 use mathlib.Core.List.{List, [], _∷_, _++_, append-assoc, append-nil}
-use mathlib.Core.Bool.{Bool, true, false, cond, _&&_}
-use borrow.Author.Tests.{le-leb, lt-leb, eq-eqb}
-use lib.Dec.{eqb, leb}
+use mathlib.Core.Bool.{Bool, true, false, cond}
+use borrow.Author.Tests.{lt-ltb, le-ltb, eq-eqb, ne-eqb}
+use lib.Dec.{eqb}
 use lib.ListN.{length, getD, take, drop, set, length-append, length-drop, drop-of-length-le}
 use lib.Seq.{sets, sets-eq, append-snoc, drop-cons, set-at, length-take-le, take-suc, take-length, take-append-seam}
+use Rattle.refusals.specs.Refusal.{Row, first, lent}
 use Rattle.lines.specs.Digits.{digitValue, allDigits}
 use Rattle.lines.proofs.Digits.{and-right}
-use Rattle.lines.specs.Text.{front, PutCall, glyphOf, hexText, hexOctets, isHex}
+use Rattle.lines.specs.Text.{roomOrder, PutCall, TextCall, HexCall, glyphOf, hexText, hexOctets, isHex, hexOrder}
 
 -- ---- the front of an output
 
@@ -31,46 +32,56 @@ pub length-front : (text before : List ℕ) (k : ℕ) → length text ≡ k → 
 length-front text before k long room = simp (length-append, length-drop, long) (omega arith)
 
 -- the text is what stands at the front
-pub take-front : (text before : List ℕ) → take (length text) (front text before) ≡ text
-unfolding front
+pub take-front : (text before : List ℕ) → take (length text) (lent 0 text before) ≡ text
+unfolding lent
 take-front text before = take-append-seam text (drop (length text) before)
 
 -- a text as long as the output is all of it
-pub front-whole : (text before : List ℕ) → length text ≡ length before → front text before ≡ text
-unfolding front
+pub front-whole : (text before : List ℕ) → length text ≡ length before → lent 0 text before ≡ text
+unfolding lent
 front-whole text before same = ap (λ (l : List ℕ). text ++ l) (drop-of-length-le before {i = length text} (omega arith)) ∙ append-nil text
 
 -- putting nothing changes nothing
-pub front-nothing : (before : List ℕ) → front [] before ≡ before
-unfolding front
+pub front-nothing : (before : List ℕ) → lent 0 [] before ≡ before
+unfolding lent
 front-nothing before = refl
 
 -- octets stored one after the other from place 0 on
-pub stored-front : (text before : List ℕ) → length text ≤ length before → sets before 0 text ≡ front text before
-unfolding front
+pub stored-front : (text before : List ℕ) → length text ≤ length before → sets before 0 text ≡ lent 0 text before
+unfolding lent
 stored-front text before room =
     sets-eq text before 0 (omega arith) ∙ ap (λ (n : ℕ). text ++ drop n before) (zero-add (length text))
 
--- what was put, and what was not
-pub put-allowed : (allowed : Bool) (text before after : List ℕ) (count : ℕ)
-    → allowed ≡ true → length text ≡ count → count ≤ length before → after ≡ front text before → PutCall allowed text before true count after
-put-allowed allowed text before after count right long room e = record {
-  ok-is = rw right (sym (le-leb (length text) (length before) (omega arith)));
-  count-is = sym long;
-  output-is = e;
-}
+-- ---- what is put, and what is refused
 
-pub put-nothing : (allowed : Bool) (text before : List ℕ) → (allowed && leb (length text) (length before)) ≡ false → PutCall allowed text before false 0 before
-unfolding front
-put-nothing allowed text before none = record { ok-is = sym none; count-is = refl; output-is = refl }
+-- the room decides
+pub room-short : (room : ℕ) (before : List ℕ) → length before < room → first (roomOrder room before) ≡ 4
+unfolding first roomOrder
+room-short room before short = rw (lt-ltb (length before) room short)
 
--- a text that is always allowed: there is room, or there is none
-pub put-done : (text before after : List ℕ) (count : ℕ) → length text ≡ count → count ≤ length before → after ≡ front text before
-    → PutCall true text before true count after
-put-done text before after count = put-allowed true text before after count refl
+pub room-enough : (room : ℕ) (before : List ℕ) → room ≤ length before → first (roomOrder room before) ≡ 0
+unfolding first roomOrder
+room-enough room before enough = rw (le-ltb (length before) room enough)
 
-pub put-no-room : (text before : List ℕ) (count : ℕ) → length text ≡ count → length before < count → PutCall true text before false 0 before
-put-no-room text before count long short = put-nothing true text before (lt-leb (length text) (length before) (omega arith))
+-- where a cause of a refusal holds nothing is put, and where none does the text is
+module _ {order : List Row} (text before : List ℕ) where
+  pub put-refused : (refusal : ℕ) → first order ≡ refusal → (refusal ≡ 0 → ⊥) → PutCall order text before refusal 0 before
+  unfolding lent
+  put-refused refusal named some = record { refusal-is = sym named; count-is = rw (ne-eqb refusal 0 some); output-is = rw (ne-eqb refusal 0 some) }
+
+  pub put-allowed : (after : List ℕ) (count : ℕ) → first order ≡ 0 → length text ≡ count → after ≡ lent 0 text before → PutCall order text before 0 count after
+  put-allowed after count none long e = record { refusal-is = sym none; count-is = sym long; output-is = e }
+
+-- where there is too little room
+pub put-short : (room : ℕ) (text before : List ℕ) → length before < room → PutCall (roomOrder room before) text before 4 0 before
+put-short room text before short = put-refused text before 4 (room-short room before short) (λ zero. omega arith)
+
+-- a text that every output with room for it takes: there is room, or there is none
+pub put-done : (text before after : List ℕ) (count : ℕ) → length text ≡ count → count ≤ length before → after ≡ lent 0 text before → TextCall text before 0 count after
+put-done text before after count long room e = put-allowed text before after count (room-enough (length text) before (omega arith)) long e
+
+pub put-no-room : (text before : List ℕ) (count : ℕ) → length text ≡ count → length before < count → TextCall text before 4 0 before
+put-no-room text before count long short = put-short (length text) text before (omega arith)
 
 -- ---- a text octet by octet
 
@@ -82,8 +93,8 @@ text-turn text before k inside room =
     ∙ rw (add-one k) (ap (λ (l : List ℕ). l ++ drop (suc k) before) (sym (take-suc text k 0 inside)))
 
 -- after the last turn all of it is put
-pub text-put : (text before : List ℕ) (k : ℕ) → k ≡ length text → take k text ++ drop k before ≡ front text before
-unfolding front
+pub text-put : (text before : List ℕ) (k : ℕ) → k ≡ length text → take k text ++ drop k before ≡ lent 0 text before
+unfolding lent
 text-put text before k end = ap (λ (n : ℕ). take n text ++ drop n before) end ∙ ap (λ (l : List ℕ). l ++ drop (length text) before) (take-length text)
 
 -- ---- octets as hex
@@ -127,8 +138,8 @@ hex-turn octets before k inside room =
     ∙ ap₂ (λ (l : List ℕ) (n : ℕ). l ++ drop n before) (sym (hexText-step octets k inside)) next
 
 -- after the last turn the whole hex is put
-pub hex-put : (octets before : List ℕ) (k : ℕ) → k ≡ length octets → hexText (take k octets) ++ drop (2 * k) before ≡ front (hexText octets) before
-unfolding front
+pub hex-put : (octets before : List ℕ) (k : ℕ) → k ≡ length octets → hexText (take k octets) ++ drop (2 * k) before ≡ lent 0 (hexText octets) before
+unfolding lent
 hex-put octets before k end =
     ap (λ (n : ℕ). hexText (take n octets) ++ drop (2 * n) before) end
     ∙ ap₂ (λ (l : List ℕ) (n : ℕ). hexText l ++ drop n before) (take-length octets) (sym (length-hexText octets))
@@ -172,8 +183,8 @@ octets-turn text before k inside room =
     ∙ ap (λ (l : List ℕ). l ++ drop (k + 1) before) (sym (hexOctets-step text k inside))
 
 -- after the last turn all octets are put
-pub octets-put : (text before : List ℕ) (k : ℕ) → 2 * k ≡ length text → hexOctets (take (2 * k) text) ++ drop k before ≡ front (hexOctets text) before
-unfolding front
+pub octets-put : (text before : List ℕ) (k : ℕ) → 2 * k ≡ length text → hexOctets (take (2 * k) text) ++ drop k before ≡ lent 0 (hexOctets text) before
+unfolding lent
 octets-put text before k end =
     let count : length text / 2 ≡ k = omega arith in
     ap₂ (λ (l : List ℕ) (n : ℕ). hexOctets l ++ drop n before)
@@ -188,6 +199,23 @@ hex-of-digits text even all = rw (eq-eqb (length text % 2) 0 even, all)
 pub hex-digits : (text : List ℕ) → isHex text ≡ true → allDigits 16 text ≡ true
 unfolding isHex
 hex-digits text e = and-right (eqb (length text % 2) 0) (allDigits 16 text) e
+
+-- the octets of pairs of hex digits: the text is none, there is no room, or they are put
+module _ (text before : List ℕ) where
+  pub hex-bad : isHex text ≡ false → HexCall text before 2 0 before
+  unfolding first hexOrder
+  hex-bad bad = put-refused (hexOctets text) before 2 (rw bad) (λ zero. omega arith)
+
+  module _ (good : isHex text ≡ true) where
+    by-room : first (hexOrder text before) ≡ first (roomOrder (length (hexOctets text)) before)
+    unfolding first hexOrder
+    by-room = rw good
+
+    pub hex-no-room : length before < length (hexOctets text) → HexCall text before 4 0 before
+    hex-no-room short = put-refused (hexOctets text) before 4 (by-room ∙ room-short _ before short) (λ zero. omega arith)
+
+    pub hex-done : (after : List ℕ) (count : ℕ) → length (hexOctets text) ≡ count → count ≤ length before → after ≡ lent 0 (hexOctets text) before → HexCall text before 0 count after
+    hex-done after count long room e = put-allowed (hexOctets text) before after count (by-room ∙ room-enough _ before (omega arith)) long e
 
 -- of two texts, whichever a test picks, neither is longer than n
 pub length-either : (test : Bool) (a b : List ℕ) (n : ℕ) → length a ≤ n → length b ≤ n → length (cond test a b) ≤ n

@@ -1,10 +1,11 @@
 -- Digits, and the numbers that texts of digits write. Assumes nothing.
 use Prim.Native.Nat.{ℕ, _+_, _-_, _*_}
 use mathlib.Core.Path.{_≡_}
-use mathlib.Core.Bool.{Bool, true, cond, _&&_}
+use mathlib.Core.Bool.{Bool, true, cond, not, _&&_}
 use mathlib.Core.List.{List, [], _∷_}
-use lib.Dec.{leb, ltb}
+use lib.Dec.{eqb, leb, ltb}
 use lib.ListN.{length}
+use Rattle.refusals.specs.Refusal.{Row, first}
 
 -- an octet from `low` to `high`
 unfoldable pub within : ℕ → ℕ → ℕ → Bool
@@ -35,7 +36,11 @@ numberOf base text = numberFrom base 0 text
 unfoldable pub isNumber : ℕ → ℕ → List ℕ → Bool
 isNumber base most text = within 1 most (length text) && allDigits base text
 
--- reading a number: whether the text is one, and its value, which is 0 where it is not
-pub record NumberCall (base most : ℕ) (text : List ℕ) (ok : Bool) (value : ℕ) : Type 0 where
-  pub ok-is : ok ≡ isNumber base most text
-  pub value-is : value ≡ cond ok (numberOf base text) 0
+-- the one refusal of reading a number: 2 where the text is none
+unfoldable pub numberOrder : ℕ → ℕ → List ℕ → List Row
+numberOrder base most text = record { number = 2; holds = not (isNumber base most text) } ∷ []
+
+-- reading a number: the refusal, and the value, which is 0 where refused
+pub record NumberCall (base most : ℕ) (text : List ℕ) (refusal value : ℕ) : Type 0 where
+  pub refusal-is : refusal ≡ first (numberOrder base most text)
+  pub value-is : value ≡ cond (eqb refusal 0) (numberOf base text) 0

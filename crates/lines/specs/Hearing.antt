@@ -2,12 +2,12 @@
 -- line, and at the line so far. Assumes nothing.
 use Prim.Native.Nat.{ℕ, _+_}
 use mathlib.Core.Path.{_≡_}
-use mathlib.Core.Bool.{Bool, cond}
+use mathlib.Core.Bool.{cond}
 use mathlib.Core.List.{List, [], _∷_, _++_}
 use lib.Dec.{eqb, leb, ltb}
-use lib.ListN.{length, take, set, replicate}
+use lib.ListN.{take, set, replicate}
 use Rattle.lines.specs.declared.Heard.{Heard}
-use Rattle.lines.specs.Text.{Answered}
+use Rattle.lines.specs.Text.{roomOrder, PutCall}
 
 -- nothing heard yet
 unfoldable pub silence : Heard
@@ -69,15 +69,12 @@ module _ {S : Type 0} (rules : Rules S) where
   saidBy at [] = []
   saidBy at (octet ∷ rest) = said at octet ++ saidBy (hearing at octet) rest
 
-  -- whether an output has room for every answer
-  unfoldable pub hasRoom : List ℕ → Bool
-  hasRoom output = leb (rules .room) (length output)
+-- hearing an octet: the refusal, which is 4 where the output has less room than the rules ask; where the program then stands; and the answer. A refused
+-- octet is not heard, even where no answer is due to it
+pub record HearCall {S : Type 0} (rules : Rules S) (at : Standing S) (octet : ℕ) (before : List ℕ) (refusal : ℕ) (then : Standing S) (written : ℕ) (after : List ℕ) : Type 0 where
+  pub said-is : PutCall (roomOrder (rules .room) before) (said rules at octet) before refusal written after
+  pub then-is : then ≡ cond (eqb refusal 0) (hearing rules at octet) at
 
--- hearing an octet: where the program then stands, and the answer; an output with too little room changes neither
-pub record HearCall {S : Type 0} (rules : Rules S) (at : Standing S) (octet : ℕ) (before : List ℕ) (then : Standing S) (written : ℕ) (after : List ℕ) : Type 0 where
-  pub then-is : then ≡ cond (hasRoom rules before) (hearing rules at octet) at
-  pub said-is : Answered (cond (hasRoom rules before) (said rules at octet) []) before written after
-
--- the end of the input
-pub record FinishCall {S : Type 0} (rules : Rules S) (at : Standing S) (before : List ℕ) (written : ℕ) (after : List ℕ) : Type 0 where
-  pub said-is : Answered (cond (hasRoom rules before) (lastSaid rules at) []) before written after
+-- the end of the input, refused likewise
+pub record FinishCall {S : Type 0} (rules : Rules S) (at : Standing S) (before : List ℕ) (refusal written : ℕ) (after : List ℕ) : Type 0 where
+  pub said-is : PutCall (roomOrder (rules .room) before) (lastSaid rules at) before refusal written after

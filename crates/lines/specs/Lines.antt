@@ -27,8 +27,8 @@ answers rules state (line ∷ rest) = rules .answer state line ++ answers rules 
 
 -- a run of the calls: `hear` for each octet of the input, then `finish`, each with an output that has room; what is written is joined
 pub data Run {S : Type 0} (rules : Rules S) : Standing S → List ℕ → List ℕ → Type 0 where
-  finished : {at : Standing S} {before after : List ℕ} {written : ℕ}
-      → rules .room ≤ length before → FinishCall rules at before written after → Run rules at [] (take written after)
-  heard-one : {at then : Standing S} {octet written : ℕ} {before after rest output : List ℕ}
-      → rules .room ≤ length before → HearCall rules at octet before then written after → Run rules then rest output
+  finished : {at : Standing S} {before after : List ℕ} {refusal written : ℕ}
+      → rules .room ≤ length before → FinishCall rules at before refusal written after → Run rules at [] (take written after)
+  heard-one : {at then : Standing S} {octet refusal written : ℕ} {before after rest output : List ℕ}
+      → rules .room ≤ length before → HearCall rules at octet before refusal then written after → Run rules then rest output
       → Run rules at (octet ∷ rest) (take written after ++ output)

@@ -1,24 +1,23 @@
 // Text that the programs read and write: digits, numbers, octets as hex, and lines that are heard octet by octet.
 ghost use mathlib.Core.Path.{_≡_};
 ghost use Prim.Native.Nat.{_^_, _<_, _≤_};
-ghost use mathlib.Core.Bool.{true};
 ghost use Rattle.lines.specs.Digits.{digitValue, allDigits, NumberCall};
-ghost use Rattle.lines.specs.Text.{PutCall, Answered, isHex, hexOctets, hexText, glyphOf, decimalText};
+ghost use Rattle.lines.specs.Text.{TextCall, HexCall, Answered, hexText, glyphOf, decimalText};
 ghost use Rattle.lines.specs.Hearing.{silence as Hearing·silence, kept as Hearing·kept, tooLong};
 ghost use lib.ListN.{length};
 
 // The most octets of a line that is kept whole.
 pub const LONGEST: usize = 48;
 
-// Whether a text is a number, and its value, which is 0 where it is none.
+// The refusal of a text that is no number, and the number's value, which is 0 where refused.
 pub struct Number {
-    pub ok: bool,
+    pub refusal: u8,
     pub value: u64,
 }
 
-// Whether a text could be put at the front of an output, and how many octets it has there.
+// The refusal of a text that was to be put at the front of an output, and how many octets it has there, 0 where refused.
 pub struct Put {
-    pub ok: bool,
+    pub refusal: u8,
     pub count: usize,
 }
 
@@ -51,10 +50,10 @@ fn all_digits(text: &[u8], base: u64) -> bool
 // A number of one to `most` digits of a base. The callers choose a base and a `most` whose largest number fits.
 fn number_in(text: &[u8], base: u64, most: usize) -> Number
     requires { ⌜ base ^ most ≤ 2 ^ 64 ⌝ }
-    ensures { λ r. ⌜ NumberCall base most (now (text .entry)) (r .ok) (r .value) ⌝ }
+    ensures { λ r. ⌜ NumberCall base most (now (text .entry)) (r .refusal) (r .value) ⌝ }
 {
     let none = Number {
-        ok: false,
+        refusal: refusals::RANGE,
         value: 0,
     };
     if text.len() < 1 {
@@ -72,47 +71,50 @@ fn number_in(text: &[u8], base: u64, most: usize) -> Number
         value = value * base + digit(text[i]) as u64;
         i += 1;
     }
-    Number { ok: true, value }
+    Number { refusal: 0, value }
 }
 
 // A decimal number of one to ten digits.
 pub fn decimal(text: &[u8]) -> Number
-    ensures { λ r. ⌜ NumberCall 10 10 (now (text .entry)) (r .ok) (r .value) ⌝ }
+    ensures { λ r. ⌜ NumberCall 10 10 (now (text .entry)) (r .refusal) (r .value) ⌝ }
 {
     number_in(text, 10, 10)
 }
 
 // A hex number of one to sixteen digits of either case.
 pub fn hexadecimal(text: &[u8]) -> Number
-    ensures { λ r. ⌜ NumberCall 16 16 (now (text .entry)) (r .ok) (r .value) ⌝ }
+    ensures { λ r. ⌜ NumberCall 16 16 (now (text .entry)) (r .refusal) (r .value) ⌝ }
 {
     number_in(text, 16, 16)
 }
 
 // Puts the octets that pairs of hex digits write at the front of the output.
 pub fn octets_of_hex(text: &[u8], output: &mut [u8]) -> Put
-    ensures { λ r. ⌜ PutCall (isHex (now (text .entry))) (hexOctets (now (text .entry))) (now (output .entry)) (r .ok) (r .count) (now (output .exit)) ⌝ }
+    ensures { λ r. ⌜ HexCall (now (text .entry)) (now (output .entry)) (r .refusal) (r .count) (now (output .exit)) ⌝ }
 {
-    let nothing = Put {
-        ok: false,
+    let bad = Put {
+        refusal: refusals::RANGE,
         count: 0,
     };
     let count = text.len() / 2;
     if text.len() % 2 != 0 {
-        return nothing;
+        return bad;
     }
     if !all_digits(text, 16) {
-        return nothing;
+        return bad;
     }
     if output.len() < count {
-        return nothing;
+        return Put {
+            refusal: refusals::ROOM,
+            count: 0,
+        };
     }
     let mut k = 0;
     while k < count {
         output[k] = digit(text[2 * k]) * 16 + digit(text[2 * k + 1]);
         k += 1;
     }
-    Put { ok: true, count }
+    Put { refusal: 0, count }
 }
 
 // The digit of a number below 16, with capital letters.
@@ -129,12 +131,12 @@ fn glyph(number: u8) -> u8
 
 // Puts octets as capital hex at the front of the output, two digits an octet.
 pub fn hex_of_octets(octets: &[u8], output: &mut [u8]) -> Put
-    ensures { λ r. ⌜ PutCall true (hexText (now (octets .entry))) (now (output .entry)) (r .ok) (r .count) (now (output .exit)) ⌝ }
+    ensures { λ r. ⌜ TextCall (hexText (now (octets .entry))) (now (output .entry)) (r .refusal) (r .count) (now (output .exit)) ⌝ }
 {
     let count = 2 * octets.len();
     if output.len() < count {
         return Put {
-            ok: false,
+            refusal: refusals::ROOM,
             count: 0,
         };
     }
@@ -144,7 +146,7 @@ pub fn hex_of_octets(octets: &[u8], output: &mut [u8]) -> Put
         output[2 * k + 1] = glyph(octets[k] % 16);
         k += 1;
     }
-    Put { ok: true, count }
+    Put { refusal: 0, count }
 }
 
 // How many digits a number has in decimal.
@@ -174,26 +176,26 @@ fn put_digits(number: u32, output: &mut [u8]) -> usize
 
 // Puts a number in decimal at the front of the output, without leading zeros.
 pub fn decimal_of_number(number: u32, output: &mut [u8]) -> Put
-    ensures { λ r. ⌜ PutCall true (decimalText number) (now (output .entry)) (r .ok) (r .count) (now (output .exit)) ⌝ }
+    ensures { λ r. ⌜ TextCall (decimalText number) (now (output .entry)) (r .refusal) (r .count) (now (output .exit)) ⌝ }
 {
     if output.len() < digits_of(number) {
         return Put {
-            ok: false,
+            refusal: refusals::ROOM,
             count: 0,
         };
     }
     let count = put_digits(number, output);
-    Put { ok: true, count }
+    Put { refusal: 0, count }
 }
 
 // Puts a text at the front of the output.
 pub fn put_text(text: &[u8], output: &mut [u8]) -> Put
-    ensures { λ r. ⌜ PutCall true (now (text .entry)) (now (output .entry)) (r .ok) (r .count) (now (output .exit)) ⌝ }
+    ensures { λ r. ⌜ TextCall (now (text .entry)) (now (output .entry)) (r .refusal) (r .count) (now (output .exit)) ⌝ }
 {
     let count = text.len();
     if output.len() < count {
         return Put {
-            ok: false,
+            refusal: refusals::ROOM,
             count: 0,
         };
     }
@@ -202,7 +204,7 @@ pub fn put_text(text: &[u8], output: &mut [u8]) -> Put
         output[k] = text[k];
         k += 1;
     }
-    Put { ok: true, count }
+    Put { refusal: 0, count }
 }
 
 // The line so far. A count above 48 means that the line is too long, which is one line like any other that is too long.

@@ -112,7 +112,7 @@ stream-alike = record {
   after-alike = λ _ _ _. refl;
 }
 
--- every answer has room
-pub stream-fits : (state : Unit {0}) (line : List ℕ) → length (answer line) ≤ largestAnswer
+-- every answer has room in an output that is not refused
+pub stream-fits : (line : List ℕ) → length (answer line) ≤ largestAnswer
 unfolding answer ended
-stream-fits state line = simp length-append (omega (arith, length-answerText line))
+stream-fits line = simp length-append (omega (arith, length-answerText line))

@@ -3,6 +3,7 @@
 use Prim.Native.Nat.{ℕ}
 use mathlib.Core.List.{List}
 use Rattle.lines.specs.declared.Heard.{Heard}
+use Rattle.lines.specs.declared.Put.{Put}
 use Rattle.lines.specs.Hearing.{Rules, Standing, HearCall as Hearing·HearCall, FinishCall as Hearing·FinishCall}
 use Rattle.lines.specs.Lines.{linesOf, answers}
 use Rattle.requests.specs.declared.Told.{Told}
@@ -22,8 +23,8 @@ streamOutput input = answers streamRules tt (linesOf input)
 
 -- hearing an octet
 abbrev pub HearCall : Heard → ℕ → List ℕ → Told → List ℕ → Type 0
-HearCall heard octet before told after = Hearing·HearCall streamRules (standing heard) octet before (standing (told .heard)) (told .written) after
+HearCall heard octet before told after = Hearing·HearCall streamRules (standing heard) octet before (told .refusal) (standing (told .heard)) (told .written) after
 
 -- the end of the input
-abbrev pub FinishCall : Heard → List ℕ → ℕ → List ℕ → Type 0
-FinishCall heard before written after = Hearing·FinishCall streamRules (standing heard) before written after
+abbrev pub FinishCall : Heard → List ℕ → Put → List ℕ → Type 0
+FinishCall heard before put after = Hearing·FinishCall streamRules (standing heard) before (put .refusal) (put .count) after

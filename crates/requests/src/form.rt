@@ -45,7 +45,7 @@ pub(crate) fn request_of(line: &[u8]) -> Request
         return nothing;
     }
     let m = lines::decimal(&line[..size]);
-    if !m.ok {
+    if m.refusal != 0 {
         return nothing;
     }
     if M_LIMIT < m.value {
@@ -53,11 +53,11 @@ pub(crate) fn request_of(line: &[u8]) -> Request
     }
     let mut key = [0u8; 16];
     let key_put = lines::octets_of_hex(&line[size + 1..size + 33], &mut key);
-    if !key_put.ok {
+    if key_put.refusal != 0 {
         return nothing;
     }
     let input = lines::hexadecimal(&line[size + 34..size + 42]);
-    if !input.ok {
+    if input.refusal != 0 {
         return nothing;
     }
     let direction = line[size + 43];

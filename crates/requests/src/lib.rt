@@ -9,6 +9,7 @@ ghost use Rattle.lines.specs.Hearing.{silence, heardLine};
 ghost use Rattle.requests.specs.Answer.{answerText, answer as Answer·answer, largestAnswer};
 ghost use Rattle.requests.specs.Stream.{HearCall, FinishCall};
 use lines::Heard;
+use lines::Put;
 
 // What ends a line.
 const LINE_FEED: u8 = b'\n';
@@ -19,8 +20,9 @@ const BAD: u8 = b'?';
 // Room for every answer: 1,520 pairs of digits and the line feed.
 const ROOM: usize = 3041;
 
-// The state after an octet, and how many octets its answer has at the front of the output.
+// The refusal of an octet, the state after it, and how many octets its answer has at the front of the output.
 pub struct Told {
+    pub refusal: u8,
     pub heard: Heard,
     pub written: usize,
 }
@@ -87,32 +89,46 @@ pub fn hear(heard: Heard, octet: u8, output: &mut [u8]) -> Told
     ensures { λ r. ⌜ HearCall heard octet (now (output .entry)) r (now (output .exit)) ⌝ }
 {
     if output.len() < ROOM {
-        return Told { heard, written: 0 };
+        return Told {
+            refusal: refusals::ROOM,
+            heard,
+            written: 0,
+        };
     }
     if octet == LINE_FEED {
         let written = put_heard(heard, output);
         let fresh = start();
         return Told {
+            refusal: 0,
             heard: fresh,
             written,
         };
     }
     let longer = lines::kept(heard, octet);
     Told {
+        refusal: 0,
         heard: longer,
         written: 0,
     }
 }
 
-// The input ends: answers a last line that has no line end, and answers how many octets that has.
-pub fn finish(heard: Heard, output: &mut [u8]) -> usize
+// The input ends: puts the answer to a last line that has no line end.
+pub fn finish(heard: Heard, output: &mut [u8]) -> Put
     ensures { λ r. ⌜ FinishCall heard (now (output .entry)) r (now (output .exit)) ⌝ }
 {
+    let refused = Put {
+        refusal: refusals::ROOM,
+        count: 0,
+    };
     if output.len() < ROOM {
-        return 0;
+        return refused;
     }
     if heard.count == 0 {
-        return 0;
+        return Put {
+            refusal: 0,
+            count: 0,
+        };
     }
-    put_heard(heard, output)
+    let count = put_heard(heard, output);
+    Put { refusal: 0, count }
 }

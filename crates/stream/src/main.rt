@@ -78,6 +78,7 @@ fn move_all(output: &mut [u8]) -> Heard
 fn main() {
     let mut output = [0u8; 3041];
     let heard = move_all(&mut output);
-    let written = requests::finish(heard, &mut output);
+    let last = requests::finish(heard, &mut output);
+    let written = last.count;
     io::write_all(STDOUT_FILENO, &output[..written]);
 }

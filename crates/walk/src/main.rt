@@ -77,10 +77,12 @@ fn move_all(output: &mut [u8]) -> Walk
 fn main() {
     let mut output = [0u8; 44];
     let header = walks::header(&mut output);
-    if !io::write_all(STDOUT_FILENO, &output[..header]) {
+    let size = header.count;
+    if !io::write_all(STDOUT_FILENO, &output[..size]) {
         return;
     }
     let walk = move_all(&mut output);
-    let written = walks::finish(walk, &mut output);
+    let last = walks::finish(walk, &mut output);
+    let written = last.count;
     io::write_all(STDOUT_FILENO, &output[..written]);
 }

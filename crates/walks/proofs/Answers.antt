@@ -155,7 +155,7 @@ walk-alike = record {
   after-alike = λ state line long. ap (λ (sent : Sent). numbered state sent .numbering) (long-same line long);
 }
 
--- every answer has room
+-- every answer has room in an output that is not refused
 pub walk-fits : (state : Numbering) (line : List ℕ) → length (answer state line) ≤ room
 unfolding answer row
 walk-fits state line =

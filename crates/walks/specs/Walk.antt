@@ -1,10 +1,10 @@
 -- The rules of `walk`, what it writes for an input, and its calls. Hearing and answering line by line is said once in the crate `lines`.
 -- Assumes nothing.
 use Prim.Native.Nat.{ℕ}
-use mathlib.Core.Bool.{cond}
 use mathlib.Core.List.{List, [], _∷_, _++_}
-use Rattle.lines.specs.Text.{Answered}
-use Rattle.lines.specs.Hearing.{silence, Rules, Standing, hasRoom, HearCall as Hearing·HearCall, FinishCall as Hearing·FinishCall}
+use Rattle.lines.specs.declared.Put.{Put}
+use Rattle.lines.specs.Text.{roomOrder, PutCall}
+use Rattle.lines.specs.Hearing.{silence, Rules, Standing, HearCall as Hearing·HearCall, FinishCall as Hearing·FinishCall}
 use Rattle.lines.specs.Lines.{linesOf, answers}
 use Rattle.numbering.specs.declared.Numbering.{Numbering}
 use Rattle.numbering.specs.Numbering.{start as Numbering·start}
@@ -36,14 +36,14 @@ header = 78 ∷ 32 ∷ 110 ∷ 117 ∷ 109 ∷ 98 ∷ 101 ∷ 114 ∷ 32 ∷ 97 
 unfoldable pub walkOutput : List ℕ → List ℕ
 walkOutput input = header ++ answers walkRules Numbering·start (linesOf input)
 
--- the header at the front of an output; an output with too little room is not changed
-abbrev pub HeaderCall : List ℕ → ℕ → List ℕ → Type 0
-HeaderCall before written after = Answered (cond (hasRoom walkRules before) header []) before written after
+-- the header at the front of an output, which must have the room for every answer
+abbrev pub HeaderCall : List ℕ → Put → List ℕ → Type 0
+HeaderCall before put after = PutCall (roomOrder room before) header before (put .refusal) (put .count) after
 
 -- hearing an octet
 abbrev pub HearCall : Walk → ℕ → List ℕ → Told → List ℕ → Type 0
-HearCall walk octet before told after = Hearing·HearCall walkRules (standing walk) octet before (standing (told .walk)) (told .written) after
+HearCall walk octet before told after = Hearing·HearCall walkRules (standing walk) octet before (told .refusal) (standing (told .walk)) (told .written) after
 
 -- the end of the input
-abbrev pub FinishCall : Walk → List ℕ → ℕ → List ℕ → Type 0
-FinishCall walk before written after = Hearing·FinishCall walkRules (standing walk) before written after
+abbrev pub FinishCall : Walk → List ℕ → Put → List ℕ → Type 0
+FinishCall walk before put after = Hearing·FinishCall walkRules (standing walk) before (put .refusal) (put .count) after

@@ -7,6 +7,7 @@ ghost use Rattle.lines.specs.Hearing.{heardLine};
 ghost use Rattle.walks.specs.Answer.{sentOf, numbered, sentText, numberText, refusalText, field, row, LineCall};
 ghost use Rattle.walks.specs.Walk.{room as Walk·room, start as Walk·start, HeaderCall, HearCall, FinishCall};
 use lines::Heard;
+use lines::Put;
 use numbering::Numbered;
 use numbering::Numbering;
 
@@ -28,8 +29,9 @@ pub struct Walk {
     pub numbering: Numbering,
 }
 
-// The state after an octet, and how many octets its answer has at the front of the output.
+// The refusal of an octet, the state after it, and how many octets its answer has at the front of the output.
 pub struct Told {
+    pub refusal: u8,
     pub walk: Walk,
     pub written: usize,
 }
@@ -58,7 +60,7 @@ fn sent_of(line: &[u8]) -> Sent
         return nothing;
     }
     let number = lines::decimal(line);
-    if !number.ok {
+    if number.refusal != 0 {
         return nothing;
     }
     if LARGEST < number.value {
@@ -188,14 +190,18 @@ pub fn start() -> Walk
     Walk { heard, numbering }
 }
 
-// Puts the header line at the front of the output, and answers how many octets it has.
-pub fn header(output: &mut [u8]) -> usize
+// Puts the header line at the front of the output.
+pub fn header(output: &mut [u8]) -> Put
     ensures { λ r. ⌜ HeaderCall (now (output .entry)) r (now (output .exit)) ⌝ }
 {
+    let refused = Put {
+        refusal: refusals::ROOM,
+        count: 0,
+    };
     if output.len() < ROOM {
-        return 0;
+        return refused;
     }
-    lines::put_text(b"N number answer next\n", output).count
+    lines::put_text(b"N number answer next\n", output)
 }
 
 // Hears one octet: a line feed has the line answered and begins a new one, any other octet is kept.
@@ -203,13 +209,18 @@ pub fn hear(walk: Walk, octet: u8, output: &mut [u8]) -> Told
     ensures { λ r. ⌜ HearCall walk octet (now (output .entry)) r (now (output .exit)) ⌝ }
 {
     if output.len() < ROOM {
-        return Told { walk, written: 0 };
+        return Told {
+            refusal: refusals::ROOM,
+            walk,
+            written: 0,
+        };
     }
     if octet == LINE_FEED {
         let stepped = put_heard(walk, output);
         let heard = lines::silence();
         let numbering = stepped.numbering;
         return Told {
+            refusal: 0,
             walk: Walk { heard, numbering },
             written: stepped.written,
         };
@@ -217,21 +228,33 @@ pub fn hear(walk: Walk, octet: u8, output: &mut [u8]) -> Told
     let heard = lines::kept(walk.heard, octet);
     let numbering = walk.numbering;
     Told {
+        refusal: 0,
         walk: Walk { heard, numbering },
         written: 0,
     }
 }
 
-// The input ends: answers a last line that has no line end, and answers how many octets that has.
-pub fn finish(walk: Walk, output: &mut [u8]) -> usize
+// The input ends: puts the answer to a last line that has no line end.
+pub fn finish(walk: Walk, output: &mut [u8]) -> Put
     ensures { λ r. ⌜ FinishCall walk (now (output .entry)) r (now (output .exit)) ⌝ }
 {
+    let refused = Put {
+        refusal: refusals::ROOM,
+        count: 0,
+    };
     if output.len() < ROOM {
-        return 0;
+        return refused;
     }
     let heard = walk.heard;
     if heard.count == 0 {
-        return 0;
+        return Put {
+            refusal: 0,
+            count: 0,
+        };
     }
-    put_heard(walk, output).written
+    let stepped = put_heard(walk, output);
+    Put {
+        refusal: 0,
+        count: stepped.written,
+    }
 }

@@ -11,7 +11,8 @@ use mathlib.Core.Bool.{true}
 use mathlib.Core.Path.{_≡_, refl, sym, ap, _∙_}
 use native.Mathlib.Nat.{pow-zero}
 use native.Mathlib.Omega.{arith}
-use Rattle.lines.specs.Digits.{digitValue, allDigits, numberFrom, numberOf, isNumber}
+use Rattle.refusals.specs.Refusal.{first}
+use Rattle.lines.specs.Digits.{digitValue, allDigits, numberFrom, numberOf, isNumber, numberOrder}
 use Rattle.lines.proofs.Digits.{within-both, within-below, within-above, digit-below, number-step, number-end, one-digit-more, number-fits}
 use Rattle.lines.proofs.number_in.Statement.{statement}
 use Rattle.lines.proofs.number_in.Tie as tie
@@ -38,24 +39,23 @@ next-fits c =
     (omega arith) (at-start .pre)
 
 returns : tie.Need-returns Inv-loop μ-loop
-unfolding isNumber
-returns c = record { ok-is = rw (within-below 1 _ _ (c .if1 .taken)); value-is = refl }
+unfolding first numberOrder isNumber
+returns c = record { refusal-is = rw (within-below 1 _ _ (c .if1 .taken)); value-is = refl }
 
 returns-2 : tie.Need-returns-2 Inv-loop μ-loop
-unfolding isNumber
-returns-2 c = record { ok-is = rw (within-above 1 _ _ (omega arith) (c .if2 .taken)); value-is = refl }
+unfolding first numberOrder isNumber
+returns-2 c = record { refusal-is = rw (within-above 1 _ _ (omega arith) (c .if2 .taken)); value-is = refl }
 
 all-digits-requires : tie.Need-all-digits-requires Inv-loop μ-loop
 all-digits-requires c κs = search needs
 
 returns-3 : tie.Need-returns-3 Inv-loop μ-loop
-unfolding isNumber
+unfolding first numberOrder isNumber
 returns-3 c =
     let at-start = c .before .before .before .before .before in
     record {
-      ok-is =
-          rw (within-both 1 (at-start .args .most) (length (now (at-start .args .text))) (omega arith) (omega arith))
-          (sym (not-true _ (c .if3 .taken)) ∙ c .before .all-digits .ensures);
+      refusal-is =
+          rw (within-both 1 (at-start .args .most) (length (now (at-start .args .text))) (omega arith) (omega arith), sym (c .before .all-digits .ensures) ∙ not-true _ (c .if3 .taken));
       value-is = refl;
     }
 
@@ -100,13 +100,13 @@ loop-again c =
     )
 
 returns-4 : tie.Need-returns-4 Inv-loop μ-loop
-unfolding isNumber
+unfolding first numberOrder isNumber
 returns-4 c =
     let at-loop = c .before in
     let given = at-loop .before .before .before .before .before .before .args in
     let text = now (given .text) in
     record {
-      ok-is = rw (within-both 1 (given .most) (length text) (omega arith) (omega arith)) (sym (are-digits (at-loop .before)));
+      refusal-is = rw (within-both 1 (given .most) (length text) (omega arith) (omega arith), are-digits (at-loop .before));
       value-is = sym (number-end (given .base) (at-loop .loop .value) text (at-loop .loop .i) (omega arith)) ∙ at-loop .loop .inv .1;
     }
 

@@ -4,7 +4,7 @@
 use Prim.Native.Nat.{ℕ, _+_, _-_, _*_, _%_, _≤_, _<_}
 use native.Mathlib.Omega.{arith}
 use borrow.Author.Needs.{needs}
-use borrow.Author.Tests.{not-true, not-false, eq-eqb, ne-eqb, lt-leb}
+use borrow.Author.Tests.{not-true, not-false, eq-eqb, ne-eqb}
 use denote.Ref.{now}
 use lib.ListN.{length, getD, take, drop, set}
 use mathlib.Core.Bool.{true}
@@ -13,7 +13,7 @@ use mathlib.Core.Path.{_≡_, refl, sym, ap, ap₂, _∙_}
 use Rattle.lines.specs.Digits.{digitValue, allDigits}
 use Rattle.lines.specs.Text.{isHex, hexOctets}
 use Rattle.lines.proofs.Digits.{digit-below}
-use Rattle.lines.proofs.Text.{length-front, length-hexOctets, length-some-octets, octets-turn, octets-put, put-allowed, put-nothing}
+use Rattle.lines.proofs.Text.{length-front, length-hexOctets, length-some-octets, octets-turn, octets-put, hex-bad, hex-no-room, hex-done}
 use Rattle.lines.proofs.octets_of_hex.Statement.{statement}
 use Rattle.lines.proofs.octets_of_hex.Tie as tie
 
@@ -48,7 +48,7 @@ returns : tie.Need-returns Inv-loop μ-loop
 unfolding isHex
 returns c =
     let text = now (c .before .before .before .args .text) in
-    put-nothing (isHex text) (hexOctets text) _ (rw (ne-eqb (length text % 2) 0 (c .if1 .taken)))
+    hex-bad text _ (rw (ne-eqb (length text % 2) 0 (c .if1 .taken)))
 
 all-digits-requires : tie.Need-all-digits-requires Inv-loop μ-loop
 all-digits-requires c κs = search needs
@@ -57,7 +57,7 @@ returns-2 : tie.Need-returns-2 Inv-loop μ-loop
 unfolding isHex
 returns-2 c =
     let text = now (c .before .before .before .before .before .args .text) in
-    put-nothing (isHex text) (hexOctets text) _
+    hex-bad text _
     (rw (eq-eqb (length text % 2) 0 (omega arith), sym (c .before .all-digits .ensures) ∙ not-true _ (c .if2 .taken)))
 
 returns-3 : tie.Need-returns-3 Inv-loop μ-loop
@@ -65,7 +65,7 @@ returns-3 c =
     let given = c .before .before .before .before .before .before .args in
     let text = now (given .text) in
     let short : length (now (given .output)) < length (hexOctets text) = omega (arith, length-hexOctets text) in
-    put-nothing (isHex text) (hexOctets text) _ (rw (are-hex (c .before), lt-leb (length (hexOctets text)) (length (now (given .output))) short))
+    hex-no-room text _ (are-hex (c .before)) short
 
 loop-holds : tie.Need-loop-holds Inv-loop μ-loop
 unfolding hexOctets
@@ -131,7 +131,7 @@ returns-4 c =
     let at-loop = c .before in
     let given = at-loop .before .before .before .before .before .before .before .args in
     let text = now (given .text) in
-    put-allowed (isHex text) (hexOctets text) (now (given .output)) _ _ (are-hex (at-loop .before .before)) (length-hexOctets text) (omega arith)
+    hex-done text (now (given .output)) (are-hex (at-loop .before .before)) _ _ (length-hexOctets text) (omega arith)
     (at-loop .loop .inv .1 ∙ octets-put text (now (given .output)) (at-loop .loop .k) (omega arith))
 
 pub octets-of-hex-spec : {M : Type 1} → statement M

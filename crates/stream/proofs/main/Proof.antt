@@ -5,13 +5,12 @@ use borrow.Author.Needs.{needs}
 use lib.ListN.{length}
 use lib.Seq.{length-take-le}
 use mathlib.Core.Path.{sym}
-use native.Mathlib.Omega.{arith}
-use Rattle.requests.proofs.Run.{finish-within}
+use Rattle.lines.proofs.Within.{put-within}
 use Rattle.stream.proofs.main.Statement.{statement}
 use Rattle.stream.proofs.main.Tie as tie
 
-within : (c : tie.After-finish) → c .finish .result ≤ length (c .finish .last .1 .0)
-within c = omega (arith, finish-within (c .finish .ensures), c .finish .kept .1 .0)
+within : (c : tie.After-finish) → c .finish .result .count ≤ length (c .finish .last .1 .0)
+within c = put-within (c .finish .ensures .said-is)
 
 slice-aggregate-move-all : tie.Need-slice-aggregate-move-all
 slice-aggregate-move-all c = search needs
@@ -29,7 +28,7 @@ array-share-prefix-output : tie.Need-array-share-prefix-output
 array-share-prefix-output c = within (c .before)
 
 slice-aggregate-write-all : tie.Need-slice-aggregate-write-all
-slice-aggregate-write-all c = sym (length-take-le (c .before .before .finish .result) (c .before .before .finish .last .1 .0) (within (c .before .before)))
+slice-aggregate-write-all c = sym (length-take-le (c .before .before .finish .result .count) (c .before .before .finish .last .1 .0) (within (c .before .before)))
 
 write-all-requires : tie.Need-write-all-requires
 write-all-requires c κs = search needs

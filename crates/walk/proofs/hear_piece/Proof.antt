@@ -12,9 +12,9 @@ use native.Mathlib.Omega.{arith}
 use Rattle.lines.specs.Hearing.{Standing, heardAfter}
 use Rattle.lines.proofs.Hearing.{heard-next, heard-all}
 use Rattle.lines.proofs.Run.{then-hearing}
+use Rattle.lines.proofs.Within.{put-within}
 use Rattle.numbering.specs.declared.Numbering.{Numbering}
 use Rattle.walks.specs.Walk.{walkRules, standing}
-use Rattle.walks.proofs.Run.{hear-within}
 use Rattle.walk.proofs.hear_piece.Statement.{statement}
 use Rattle.walk.proofs.hear_piece.Tie as tie
 
@@ -25,10 +25,11 @@ Inv-loop piece output₀ so-far₀ i₀ output so-far i =
 abbrev μ-loop : tie.MeasureT-loop
 μ-loop piece output₀ so-far₀ i₀ output so-far i = length piece - i
 
--- what is written is within the output, which keeps its length
+-- what is written is within the output
 within : (c : tie.After-hear Inv-loop μ-loop) → c .hear .result .written ≤ length (c .hear .last .1 .1 .0)
-within c = omega (arith, hear-within (c .hear .ensures), c .hear .kept .1 .1 .0)
+within c = put-within (c .hear .ensures .said-is)
 
+-- which keeps its length
 length-kept : (c : tie.After-hear Inv-loop μ-loop) → length (c .hear .last .1 .1 .0) ≡ length (now (c .before .before .before .before .before .before .before .args .output))
 length-kept c = c .hear .kept .1 .1 .0 ∙ c .before .before .before .before .loop .inv .2
 

@@ -4,17 +4,16 @@ use Prim.Native.Nat.{_≤_}
 use lib.ListN.{length}
 use lib.Seq.{length-take-le}
 use mathlib.Core.Path.{sym}
-use native.Mathlib.Omega.{arith}
-use Rattle.walks.proofs.Run.{header-within, finish-within}
+use Rattle.lines.proofs.Within.{put-within}
 use borrow.Author.Needs.{needs}
 use Rattle.walk.proofs.main.Statement.{statement}
 use Rattle.walk.proofs.main.Tie as tie
 
-header-inside : (c : tie.After-header) → c .header .result ≤ length (c .header .last .0)
-header-inside c = omega (arith, header-within (c .header .ensures), c .header .kept .0)
+header-inside : (c : tie.After-header) → c .header .result .count ≤ length (c .header .last .0)
+header-inside c = put-within (c .header .ensures)
 
-finish-inside : (c : tie.After-finish) → c .finish .result ≤ length (c .finish .last .1 .0)
-finish-inside c = omega (arith, finish-within (c .finish .ensures), c .finish .kept .1 .0)
+finish-inside : (c : tie.After-finish) → c .finish .result .count ≤ length (c .finish .last .1 .0)
+finish-inside c = put-within (c .finish .ensures .said-is)
 
 slice-aggregate-header : tie.Need-slice-aggregate-header
 slice-aggregate-header c = search needs
@@ -26,7 +25,7 @@ array-share-prefix-output : tie.Need-array-share-prefix-output
 array-share-prefix-output c = header-inside (c .before)
 
 slice-aggregate-write-all : tie.Need-slice-aggregate-write-all
-slice-aggregate-write-all c = sym (length-take-le (c .before .before .header .result) (c .before .before .header .last .0) (header-inside (c .before .before)))
+slice-aggregate-write-all c = sym (length-take-le (c .before .before .header .result .count) (c .before .before .header .last .0) (header-inside (c .before .before)))
 
 write-all-requires : tie.Need-write-all-requires
 write-all-requires c κs = search needs
@@ -50,7 +49,7 @@ array-share-prefix-output-2 : tie.Need-array-share-prefix-output-2
 array-share-prefix-output-2 c = finish-inside (c .before)
 
 slice-aggregate-write-all-2 : tie.Need-slice-aggregate-write-all-2
-slice-aggregate-write-all-2 c = sym (length-take-le (c .before .before .finish .result) (c .before .before .finish .last .1 .0) (finish-inside (c .before .before)))
+slice-aggregate-write-all-2 c = sym (length-take-le (c .before .before .finish .result .count) (c .before .before .finish .last .1 .0) (finish-inside (c .before .before)))
 
 write-all-requires-2 : tie.Need-write-all-requires-2
 write-all-requires-2 c κs = search needs

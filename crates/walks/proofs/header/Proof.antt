@@ -1,18 +1,15 @@
 -- `walks::header` meets its contract: the header is put where there is room.
 -- Assumes nothing.
-use borrow.Author.Tests.{le-leb, lt-leb}
-use mathlib.Core.Path.{refl}
-use native.Mathlib.Omega.{arith}
-use Rattle.lines.specs.Hearing.{hasRoom}
-use Rattle.lines.proofs.Answered.{answered-nothing, answered-put}
-use Rattle.walks.specs.Walk.{header}
+use lib.Dec.{lit≤}
+use Rattle.lines.proofs.Calls.{put-in-room}
+use Rattle.lines.proofs.Text.{put-short}
+use Rattle.walks.specs.Walk.{room, header}
 use borrow.Author.Needs.{needs}
 use Rattle.walks.proofs.header.Statement.{statement}
 use Rattle.walks.proofs.header.Tie as tie
 
 returns : tie.Need-returns
-unfolding hasRoom
-returns c = rw (lt-leb _ _ (c .if1 .taken)) (answered-nothing _)
+returns c = put-short room header _ (c .if1 .taken)
 
 slice-aggregate-put-text : tie.Need-slice-aggregate-put-text
 slice-aggregate-put-text c = search needs
@@ -24,10 +21,8 @@ same-length : tie.Need-same-length
 same-length c = search needs
 
 returns-2 : tie.Need-returns-2
-unfolding hasRoom header
-returns-2 c =
-    let at-room = c .before .before .before .before .before in
-    rw (le-leb _ _ (at-room .if1 .left)) (answered-put (c .before .before .put-text .ensures) (omega arith) refl)
+unfolding header
+returns-2 c = put-in-room room (lit≤ tt) (c .before .before .before .before .before .if1 .left) (c .before .before .put-text .ensures)
 
 pub header-spec : {M : Type 1} → statement M
 header-spec =

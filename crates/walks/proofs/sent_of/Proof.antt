@@ -1,10 +1,9 @@
 -- `walks::sent_of` meets its contract: each test picks its case.
 -- Assumes nothing.
-use borrow.Author.Tests.{not-true, not-false}
 use mathlib.Core.Bool.{true}
-use mathlib.Core.Path.{sym, _∙_}
+use mathlib.Core.Path.{_∙_}
 use native.Mathlib.Omega.{arith}
-use Rattle.lines.proofs.Determined.{number-read}
+use Rattle.lines.proofs.Determined.{number-none, number-read}
 use Rattle.walks.proofs.Answers.{sent-long, sent-none, sent-above, sent-good}
 use borrow.Author.Needs.{needs}
 use Rattle.walks.proofs.sent_of.Statement.{statement}
@@ -19,12 +18,12 @@ decimal-requires c κs = search needs
 returns-2 : tie.Need-returns-2
 returns-2 c =
     let at-number = c .before .before in
-    sent-none _ (at-number .before .if1 .left) (sym (at-number .decimal .ensures .ok-is) ∙ not-true _ (c .if2 .taken))
+    sent-none _ (at-number .before .if1 .left) (number-none (at-number .decimal .ensures) (c .if2 .taken))
 
 returns-3 : tie.Need-returns-3
 returns-3 c =
     let at-number = c .before .before .before .before in
-    let read = number-read (at-number .decimal .ensures) (not-false _ (c .before .before .if2 .left)) in
+    let read = number-read (at-number .decimal .ensures) (c .before .before .if2 .left) in
     sent-above _ (at-number .before .if1 .left) (read .0) (omega (arith, read .1))
 
 cast-t6 : tie.Need-cast-t6
@@ -33,7 +32,7 @@ cast-t6 c = search needs
 returns-4 : tie.Need-returns-4
 returns-4 c =
     let at-number = c .before .before .before .before .before in
-    let read = number-read (at-number .decimal .ensures) (not-false _ (c .before .before .before .if2 .left)) in
+    let read = number-read (at-number .decimal .ensures) (c .before .before .before .if2 .left) in
     (λ i. record { ok = true; value = read .1 i }) ∙ sent-good _ (at-number .before .if1 .left) (read .0) (omega (arith, read .1))
 
 pub sent-of-spec : {M : Type 1} → statement M
