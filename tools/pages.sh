@@ -1,6 +1,7 @@
 #!/usr/bin/env bash
-# Fails when a page names a file or a name that does not exist, when docs/CALLS.md does not list exactly the public calls, when
-# docs/ARCHITECTURE.md does not say what crates.txt says, or when a public function has a `requires`.
+# Fails when a page names a file or a name that does not exist, when docs/CALLS.md does not list exactly the public calls, when the
+# lines of `call` on README.md are not those of the public calls, when docs/ARCHITECTURE.md does not say what crates.txt says, or when
+# a public function has a `requires`.
 # On the pages, `crate/folder/File.ext#name` is a name in a file under crates/, and `a/path.ext` a file.
 set -euo pipefail
 top=$(cd "$(dirname "$0")/.." && pwd -P)
@@ -41,6 +42,21 @@ calls=$(for source in crates/*/src/*.rt; do
 done | sort)
 listed=$(sed -nE 's/^\| `([a-z0-9_]+::[a-z0-9_]+)`.*/\1/p' docs/CALLS.md | sort)
 [ "$calls" = "$listed" ] || { fault 'docs/CALLS.md does not list exactly the public calls:'; diff <(echo "$listed") <(echo "$calls") >&2 || true; }
+
+# The line of `call` that makes a public call bears its name, after its crate's where two crates share it; but for these.
+line_of() {
+    local name=${1##*::}
+    case $1 in
+    numbering::start) echo start ;;
+    frames::header_of) echo header ;;
+    walks::header) echo walks_header ;;
+    frames::look_refusal) echo look ;;
+    *) if [ "$(grep -c "::$name$" <<<"$calls")" -gt 1 ]; then echo "${1%%::*}_$name"; else echo "$name"; fi ;;
+    esac
+}
+made=$(for call in $calls; do line_of "$call"; done | sort -u)
+known=$(awk '/^`call` knows these lines:$/ { on = 1; next } on && /^```$/ { fences++; next } fences == 1 { print $1 } fences == 2 { exit }' README.md | sort)
+[ "$made" = "$known" ] || { fault 'README.md does not list a line of `call` for each public call:'; diff <(echo "$known") <(echo "$made") >&2 || true; }
 
 uses=$(sed 's/#.*//' crates.txt | sed -nE 's/^([a-z0-9_]+): *(.*)$/\1: \2/p' | sed 's/ *$//' | sort)
 said=$(sed -nE 's/^\| `([a-z0-9_]+)` \| uses ([^|]*) \|.*/\1: \2/p' docs/ARCHITECTURE.md | sed 's/: nothing$/:/; s/`//g; s/,//g' | sort)

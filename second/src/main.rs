@@ -7,6 +7,7 @@ mod cases;
 mod check;
 mod fast;
 mod gates;
+mod hearing;
 mod kasumi;
 mod keystreams;
 mod kgcore;

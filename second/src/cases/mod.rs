@@ -5,6 +5,7 @@ mod call_forms;
 pub mod huge;
 pub mod link;
 pub mod stream;
+mod text;
 pub mod walk;
 
 use crate::random::Random;
