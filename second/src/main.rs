@@ -8,6 +8,7 @@ mod check;
 mod demo;
 mod fast;
 mod gates;
+mod hearing;
 mod kasumi;
 mod keystreams;
 mod kgcore;

@@ -23,14 +23,11 @@ struct KeyField {
 fn key_field(line: &[u8], k: usize) -> KeyField {
     let key = fields::octets_field(line, k);
     let source = key.octets;
+    let count = key.count;
     let mut octets = [0u8; 16];
-    let mut i = 0;
-    while i < 16 {
-        octets[i] = source[i];
-        i += 1;
-    }
+    lines::put_text(&source[..count], &mut octets);
     KeyField {
-        ok: key.ok & (key.count == 16),
+        ok: key.ok & (count == 16),
         octets,
     }
 }

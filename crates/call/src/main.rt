@@ -1,41 +1,42 @@
-// Makes any public call of the ciphers, the keystreams, the bit strings, the numbering, the frame and the link: a line of standard input is a call,
-// and a line of standard output everything that it hands out.
+// Makes any public call: a line of standard input is a call, and a line of standard output everything that it hands out.
 mod calls;
 mod fields;
 mod links;
 mod tell;
+mod texts;
 
 use libc::STDIN_FILENO;
+use texts::Putting;
 
-// The answer to a line, by its first field and how many fields there are.
+// The answer to a line, by its first field and how many fields there are. The tests join both by `&`, which has no branch to prove.
 fn answer(line: &[u8]) -> bool {
     cipher_answer(line, fields::field(line, 0), fields::count(line))
 }
 
 // A call of the ciphers, the keystreams or the bit strings.
 fn cipher_answer(line: &[u8], name: &[u8], count: usize) -> bool {
-    if count == 3 && check::same(name, b"kasumi") {
+    if (count == 3) & check::same(name, b"kasumi") {
         return calls::kasumi_line(line);
     }
-    if count == 9 && check::same(name, b"kgcore") {
+    if (count == 9) & check::same(name, b"kgcore") {
         return calls::kgcore_line(line);
     }
-    if count == 5 && check::same(name, b"gsm") {
+    if (count == 5) & check::same(name, b"gsm") {
         return calls::a5_line(line, true);
     }
-    if count == 5 && check::same(name, b"ecsd") {
+    if (count == 5) & check::same(name, b"ecsd") {
         return calls::a5_line(line, false);
     }
-    if count == 6 && check::same(name, b"gea4") {
+    if (count == 6) & check::same(name, b"gea4") {
         return calls::gea4_line(line);
     }
-    if count == 5 && check::same(name, b"cut") {
+    if (count == 5) & check::same(name, b"cut") {
         return calls::cut_line(line);
     }
-    if count == 2 && check::same(name, b"size") {
+    if (count == 2) & check::same(name, b"size") {
         return calls::size_line(line);
     }
-    if count == 3 && check::same(name, b"first_bits") {
+    if (count == 3) & check::same(name, b"first_bits") {
         return calls::first_bits_line(line);
     }
     numbering_answer(line, name, count)
@@ -43,22 +44,22 @@ fn cipher_answer(line: &[u8], name: &[u8], count: usize) -> bool {
 
 // A call of the numbering or the frame.
 fn numbering_answer(line: &[u8], name: &[u8], count: usize) -> bool {
-    if count == 1 && check::same(name, b"start") {
+    if (count == 1) & check::same(name, b"start") {
         return links::start_line();
     }
-    if count == 3 && check::same(name, b"is_good") {
+    if (count == 3) & check::same(name, b"is_good") {
         return links::is_good_line(line);
     }
-    if count == 4 && check::same(name, b"number") {
+    if (count == 4) & check::same(name, b"number") {
         return links::number_line(line);
     }
-    if count == 2 && check::same(name, b"look") {
+    if (count == 2) & check::same(name, b"look") {
         return links::look_line(line);
     }
-    if count == 2 && check::same(name, b"header") {
+    if (count == 2) & check::same(name, b"header") {
         return links::header_line(line);
     }
-    if count == 6 && check::same(name, b"put_header") {
+    if (count == 6) & check::same(name, b"put_header") {
         return links::put_header_line(line);
     }
     link_answer(line, name, count)
@@ -66,17 +67,75 @@ fn numbering_answer(line: &[u8], name: &[u8], count: usize) -> bool {
 
 // A call of the link's ends.
 fn link_answer(line: &[u8], name: &[u8], count: usize) -> bool {
-    if count == 5 && check::same(name, b"open_sender") {
+    if (count == 5) & check::same(name, b"open_sender") {
         return links::open_sender_line(line);
     }
-    if count == 5 && check::same(name, b"open_receiver") {
+    if (count == 5) & check::same(name, b"open_receiver") {
         return links::open_receiver_line(line);
     }
-    if count == 8 && check::same(name, b"seal") {
+    if (count == 8) & check::same(name, b"seal") {
         return links::seal_line(line);
     }
-    if count == 9 && check::same(name, b"open") {
+    if (count == 9) & check::same(name, b"open") {
         return links::open_line(line);
+    }
+    text_answer(line, name, count)
+}
+
+// A call about texts or about a line heard.
+fn text_answer(line: &[u8], name: &[u8], count: usize) -> bool {
+    if (count == 2) & check::same(name, b"decimal") {
+        return texts::number_line(line, true);
+    }
+    if (count == 2) & check::same(name, b"hexadecimal") {
+        return texts::number_line(line, false);
+    }
+    if (count == 3) & check::same(name, b"octets_of_hex") {
+        return texts::put_line(line, Putting::OctetsOfHex, 2);
+    }
+    if (count == 3) & check::same(name, b"hex_of_octets") {
+        return texts::put_line(line, Putting::HexOfOctets, 2);
+    }
+    if (count == 3) & check::same(name, b"decimal_of_number") {
+        return texts::put_line(line, Putting::DecimalOfNumber, 2);
+    }
+    if (count == 3) & check::same(name, b"put_text") {
+        return texts::put_line(line, Putting::Text, 2);
+    }
+    if (count == 1) & check::same(name, b"silence") {
+        return texts::silence_line();
+    }
+    if (count == 1) & check::same(name, b"too_long") {
+        return texts::too_long_line();
+    }
+    if (count == 4) & check::same(name, b"kept") {
+        return texts::kept_line(line);
+    }
+    program_answer(line, name, count)
+}
+
+// A call that `stream` or `walk` is made of.
+fn program_answer(line: &[u8], name: &[u8], count: usize) -> bool {
+    if (count == 1) & check::same(name, b"requests_start") {
+        return texts::requests_start_line();
+    }
+    if (count == 5) & check::same(name, b"requests_hear") {
+        return texts::put_line(line, Putting::RequestsHear, 4);
+    }
+    if (count == 4) & check::same(name, b"requests_finish") {
+        return texts::put_line(line, Putting::RequestsFinish, 3);
+    }
+    if (count == 1) & check::same(name, b"walks_start") {
+        return texts::walks_start_line();
+    }
+    if (count == 2) & check::same(name, b"walks_header") {
+        return texts::put_line(line, Putting::WalksHeader, 1);
+    }
+    if (count == 7) & check::same(name, b"walks_hear") {
+        return texts::put_line(line, Putting::WalksHear, 6);
+    }
+    if (count == 6) & check::same(name, b"walks_finish") {
+        return texts::put_line(line, Putting::WalksFinish, 5);
     }
     tell::bad()
 }

@@ -34,22 +34,28 @@ pub(crate) fn number(number: u64) -> bool {
     io::print_decimal(STDOUT_FILENO, number)
 }
 
+pub(crate) fn space() -> bool {
+    io::write_all(STDOUT_FILENO, b" ")
+}
+
 // A space, and a number.
 pub(crate) fn next_number(value: u64) -> bool {
-    io::write_all(STDOUT_FILENO, b" ") && number(value)
+    space() && number(value)
 }
 
 pub(crate) fn line_end() -> bool {
     io::write_all(STDOUT_FILENO, b"\n")
 }
 
-// A space, and all octets of a buffer as hex, or - where it has none.
+// A space, and all octets of a buffer.
 pub(crate) fn buffer(octets: &[u8]) -> bool {
+    space() && hex(octets)
+}
+
+// Octets as hex, or - where there are none.
+pub(crate) fn hex(octets: &[u8]) -> bool {
     if octets.len() == 0 {
-        return io::write_all(STDOUT_FILENO, b" -");
-    }
-    if !io::write_all(STDOUT_FILENO, b" ") {
-        return false;
+        return io::write_all(STDOUT_FILENO, b"-");
     }
     let mut i = 0;
     while i < octets.len() {

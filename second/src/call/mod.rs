@@ -17,10 +17,12 @@
 //! after `0x`. ROOM is the size of a lent output, at most 65,600. A line has at most 8,192
 //! octets. The answer is the refusal number, then KASUMI's block or every octet of each
 //! lent output (`-` for none), in capital hex. Where nothing can be refused, only the result
-//! is shown, in decimal. The lines of the link are described in `call/link.rs`.
+//! is shown, in decimal. The lines of the link are described in `call/link.rs`, those of texts
+//! in `call/text.rs`.
 
 pub mod form;
 mod link;
+mod text;
 
 use crate::lines::fields;
 use crate::product::{self, Numbers};
@@ -68,7 +70,7 @@ pub fn answer(line: &[u8]) -> Option<String> {
         [b"first_bits", octet, count] => {
             Some(product::first_bits(number(octet)?, number(count)?).to_string())
         }
-        ref others => link::answer(others),
+        ref others => link::answer(others).or_else(|| text::answer(others)),
     }
 }
 

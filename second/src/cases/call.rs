@@ -1,7 +1,8 @@
 //! The test input for the program `call`: published vectors, document 01's examples,
-//! edges, every refusal alone and with others, bad lines, random lines; then the link's.
+//! edges, every refusal alone and with others, bad lines, random lines; then the link's and
+//! those of texts.
 
-use super::{call_forms, ended, link, published, spoiled, KEY, SIZES};
+use super::{call_forms, ended, link, published, spoiled, text, KEY, SIZES};
 use crate::random::Random;
 use crate::vectors;
 
@@ -28,6 +29,7 @@ pub fn input() -> String {
         call_forms::bad_lines(),
         random_lines(),
         link::lines(),
+        text::lines(),
     ];
     ended(parts.concat())
 }
@@ -275,6 +277,17 @@ mod tests {
             ("seal", vec!["0", "12", "3", "10", "4", "?"]),
             ("open", vec!["0", "12", "5", "6", "7", "8", "9", "10", "11", "4", "?"]),
             ("number", vec!["0", "12", "2", "9", "10", "11", "?"]),
+            ("decimal", vec!["0", "2", "?"]),
+            ("hexadecimal", vec!["0", "2", "?"]),
+            ("octets_of_hex", vec!["0", "2", "4", "?"]),
+            ("hex_of_octets", vec!["0", "4", "?"]),
+            ("decimal_of_number", vec!["0", "4", "?"]),
+            ("put_text", vec!["0", "4", "?"]),
+            ("requests_hear", vec!["0", "4", "?"]),
+            ("requests_finish", vec!["0", "4", "?"]),
+            ("walks_header", vec!["0", "4", "?"]),
+            ("walks_hear", vec!["0", "4", "?"]),
+            ("walks_finish", vec!["0", "4", "?"]),
         ];
         for (name, numbers) in refusals {
             assert!(numbers.iter().all(|number| meets(name, number)), "{name}");

@@ -6,6 +6,7 @@ pub mod demo;
 pub mod huge;
 pub mod link;
 pub mod stream;
+mod text;
 pub mod walk;
 
 use crate::random::Random;

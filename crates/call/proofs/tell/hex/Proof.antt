@@ -1,10 +1,10 @@
--- `call::tell::buffer` is safe and ends: each piece ends past its start, and within the octets.
+-- `call::tell::hex` is safe and ends: each piece ends past its start, and within the octets.
 -- Assumes nothing.
 use Prim.Native.Nat.{ℕ, _-_, _≤_}
 use borrow.Author.Needs.{needs}
 use lib.ListN.{length}
-use Rattle.call.proofs.tell.buffer.Statement.{statement}
-use Rattle.call.proofs.tell.buffer.Tie as tie
+use Rattle.call.proofs.tell.hex.Statement.{statement}
+use Rattle.call.proofs.tell.hex.Tie as tie
 
 abbrev Inv-loop : tie.InvT-loop
 Inv-loop octets i₀ i = i ≤ length octets
@@ -20,15 +20,6 @@ write-all-requires c κs = search needs
 
 returns : tie.Need-returns Inv-loop μ-loop
 returns c = search needs
-
-slice-aggregate-write-all-2 : tie.Need-slice-aggregate-write-all-2 Inv-loop μ-loop
-slice-aggregate-write-all-2 c = search needs
-
-write-all-requires-2 : tie.Need-write-all-requires-2 Inv-loop μ-loop
-write-all-requires-2 c κs = search needs
-
-returns-2 : tie.Need-returns-2 Inv-loop μ-loop
-returns-2 c = search needs
 
 loop-holds : tie.Need-loop-holds Inv-loop μ-loop
 loop-holds c = search needs
@@ -48,8 +39,8 @@ part-piece-end c = search needs
 piece-requires : tie.Need-piece-requires Inv-loop μ-loop
 piece-requires c κs = search needs
 
-returns-3 : tie.Need-returns-3 Inv-loop μ-loop
-returns-3 c = search needs
+returns-2 : tie.Need-returns-2 Inv-loop μ-loop
+returns-2 c = search needs
 
 loop-less : tie.Need-loop-less Inv-loop μ-loop
 loop-less c = search needs
@@ -57,11 +48,11 @@ loop-less c = search needs
 loop-again : tie.Need-loop-again Inv-loop μ-loop
 loop-again c = search needs
 
-returns-4 : tie.Need-returns-4 Inv-loop μ-loop
-returns-4 c = search needs
+returns-3 : tie.Need-returns-3 Inv-loop μ-loop
+returns-3 c = search needs
 
-pub buffer-spec : {M : Type 1} → statement M
-buffer-spec =
+pub hex-spec : {M : Type 1} → statement M
+hex-spec =
     tie.close
     (tie.spec
     Inv-loop
@@ -69,16 +60,13 @@ buffer-spec =
     slice-aggregate-write-all
     write-all-requires
     returns
-    slice-aggregate-write-all-2
-    write-all-requires-2
-    returns-2
     loop-holds
     piece-end-requires
     sub-piece
     part-piece-start
     part-piece-end
     piece-requires
-    returns-3
+    returns-2
     loop-less
     loop-again
-    returns-4)
+    returns-3)
