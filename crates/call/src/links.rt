@@ -9,9 +9,9 @@ use link::Sender;
 use numbering::Numbering;
 
 // A link as the fields KEY IOV SAPI DIRECTION from field k on.
-struct LinkFields {
-    ok: bool,
-    link: Link,
+pub(crate) struct LinkFields {
+    pub(crate) ok: bool,
+    pub(crate) link: Link,
 }
 
 // The 16 octets of a key; a state has no other.
@@ -32,7 +32,7 @@ fn key_field(line: &[u8], k: usize) -> KeyField {
     }
 }
 
-fn link_fields(line: &[u8], k: usize) -> LinkFields
+pub(crate) fn link_fields(line: &[u8], k: usize) -> LinkFields
     requires { ⌜ k < 100 ⌝ }
 {
     let key = key_field(line, k);
@@ -175,7 +175,7 @@ pub(crate) fn open_sender_line(line: &[u8]) -> bool {
     tell::number(opened.refusal as u64) && tell_sender(sender) && tell::line_end()
 }
 
-fn tell_sender(sender: Sender) -> bool {
+pub(crate) fn tell_sender(sender: Sender) -> bool {
     let link = sender.link;
     tell_link(link) && tell::next_number(sender.next as u64)
 }
@@ -196,7 +196,7 @@ pub(crate) fn open_receiver_line(line: &[u8]) -> bool {
     tell::number(opened.refusal as u64) && tell_receiver(receiver) && tell::line_end()
 }
 
-fn tell_receiver(receiver: Receiver) -> bool {
+pub(crate) fn tell_receiver(receiver: Receiver) -> bool {
     let link = receiver.link;
     let numbering = receiver.numbering;
     tell_link(link)

@@ -1,4 +1,5 @@
 // Makes any public call: a line of standard input is a call, and a line of standard output everything that it hands out.
+mod benches;
 mod calls;
 mod fields;
 mod links;
@@ -114,6 +115,23 @@ fn text_answer(line: &[u8], name: &[u8], count: usize) -> bool {
     program_answer(line, name, count)
 }
 
+// A call that `demo` is made of.
+fn bench_answer(line: &[u8], name: &[u8], count: usize) -> bool {
+    if (count == 1) & check::same(name, b"bench_start") {
+        return benches::start_line();
+    }
+    if (count == 2) & check::same(name, b"bench_header") {
+        return texts::put_line(line, Putting::BenchHeader, 1);
+    }
+    if (count == 18) & check::same(name, b"bench_hear") {
+        return texts::put_line(line, Putting::BenchHear, 17);
+    }
+    if (count == 17) & check::same(name, b"bench_finish") {
+        return texts::put_line(line, Putting::BenchFinish, 16);
+    }
+    tell::bad()
+}
+
 // A call that `stream` or `walk` is made of.
 fn program_answer(line: &[u8], name: &[u8], count: usize) -> bool {
     if (count == 1) & check::same(name, b"requests_start") {
@@ -137,7 +155,7 @@ fn program_answer(line: &[u8], name: &[u8], count: usize) -> bool {
     if (count == 6) & check::same(name, b"walks_finish") {
         return texts::put_line(line, Putting::WalksFinish, 5);
     }
-    tell::bad()
+    bench_answer(line, name, count)
 }
 
 // The answer to a line of which `count` octets were heard; one longer than the buffer is a bad line.

@@ -1,5 +1,6 @@
-// The calls about texts, and those that `stream` and `walk` are made of. A text is its octets. What has been heard of a line is written as its 48
+// The calls about texts, and those that `stream` and `walk` are made of; those of `demo` are in benches.rt. A text is its octets. What has been heard of a line is written as its 48
 // octets and their count, and where a walk stands as that with the numbering's fields; both are told the same way.
+use crate::benches;
 use crate::fields;
 use crate::tell;
 use lines::Heard;
@@ -9,9 +10,9 @@ use numbering::Numbering;
 use walks::Walk;
 
 // The fields OCTETS COUNT of a line heard, the first of every line that has them.
-struct HeardFields {
-    ok: bool,
-    heard: Heard,
+pub(crate) struct HeardFields {
+    pub(crate) ok: bool,
+    pub(crate) heard: Heard,
 }
 
 // The fields OCTETS COUNT NEXT MARKS of a walk.
@@ -21,7 +22,7 @@ struct WalkFields {
 }
 
 // The state has 48 octets, and no other number of them has its form.
-fn heard_fields(line: &[u8]) -> HeardFields {
+pub(crate) fn heard_fields(line: &[u8]) -> HeardFields {
     let read = fields::octets_field(line, 1);
     let heard = fields::number64(line, 2);
     let source = read.octets;
@@ -54,7 +55,7 @@ fn walk_fields(line: &[u8]) -> WalkFields {
     }
 }
 
-fn tell_heard(heard: Heard) -> bool {
+pub(crate) fn tell_heard(heard: Heard) -> bool {
     let octets = heard.octets;
     tell::hex(&octets) && tell::next_number(heard.count as u64)
 }
@@ -73,7 +74,7 @@ fn tell_number(read: Number) -> bool {
 }
 
 // A refusal, how many octets were put, and what the lent output holds.
-fn tell_put(put: Put, output: &[u8]) -> bool {
+pub(crate) fn tell_put(put: Put, output: &[u8]) -> bool {
     tell::number(put.refusal as u64)
         && tell::next_number(put.count as u64)
         && tell::buffer(output)
@@ -136,6 +137,9 @@ pub(crate) enum Putting {
     WalksHeader,
     WalksHear,
     WalksFinish,
+    BenchHeader,
+    BenchHear,
+    BenchFinish,
 }
 
 // A line of such a call, with ROOM in field k.
@@ -160,6 +164,9 @@ fn put(line: &[u8], putting: Putting, output: &mut [u8]) -> bool {
         Putting::WalksHeader => tell_put(walks::header(output), output),
         Putting::WalksHear => walks_hear(line, output),
         Putting::WalksFinish => walks_finish(line, output),
+        Putting::BenchHeader => benches::header(output),
+        Putting::BenchHear => benches::hear(line, output),
+        Putting::BenchFinish => benches::finish(line, output),
     }
 }
 

@@ -90,7 +90,7 @@ fn opened<State: Display>(
 }
 
 /// The key of a state is an array of 16 octets, so that another length has no form.
-fn link(key: &[u8], iov: &[u8], sapi: &[u8], direction: &[u8]) -> Option<Link> {
+pub fn link(key: &[u8], iov: &[u8], sapi: &[u8], direction: &[u8]) -> Option<Link> {
     let key = octets_field(key)?.try_into().ok()?;
     Some(Link { key, iov: number(iov)?, sapi: number(sapi)?, direction: number(direction)? })
 }

@@ -18,16 +18,24 @@
 //! walks_header ROOM                                  REFUSAL WRITTEN OUTPUT
 //! walks_hear WALK OCTET ROOM                         REFUSAL WRITTEN WALK OUTPUT
 //! walks_finish WALK ROOM                             REFUSAL WRITTEN OUTPUT
+//! bench_start                                        PLAY
+//! bench_header ROOM                                  REFUSAL WRITTEN OUTPUT
+//! bench_hear PLAY OCTET ROOM                         REFUSAL WRITTEN PLAY OUTPUT
+//! bench_finish PLAY ROOM                             REFUSAL WRITTEN OUTPUT
 //! ```
 //!
 //! The answer stands on the right. A text is its octets, in hex like all octets. HEARD is OCTETS
-//! COUNT with exactly 48 octets, and WALK has NEXT MARKS behind it. A decimal number has up to 10
+//! COUNT with exactly 48 octets, and WALK has NEXT MARKS behind it. PLAY has behind it a sender's
+//! state, a receiver's, and FRAMES SIZES with exactly 460 and 10 octets. A decimal number has up to 10
 //! digits, a hexadecimal one up to 16. 2 refuses a text of another form, 4 an output with too
 //! little room: for the text, or for the longest answer of a program.
 
 use super::form::{lent, number, octets_field, shown};
+use super::link::link;
+use crate::demo::{self, Play};
 use crate::hearing::{Heard, Hearing, Walk};
 use crate::lines::{based, hex, octets};
+use crate::link::states::{Receiver, Sender};
 use crate::refusals::{first, NONE, RANGE, ROOM};
 use crate::walk;
 use std::fmt::Display;
@@ -65,6 +73,12 @@ pub fn answer(fields: &[&[u8]]) -> Option<String> {
         [b"walks_finish", octets, count, next, marks, room] => {
             Some(finish(walking(octets, count, next, marks)?, lent(room)?))
         }
+        [b"bench_start"] => Some(Play::start().to_string()),
+        [b"bench_header", room] => Some(said::<Play>(&demo::heading(), lent(room)?).told()),
+        [b"bench_hear", ref fields @ .., octet, room] => {
+            Some(hear(playing(fields)?, number(octet)?, lent(room)?))
+        }
+        [b"bench_finish", ref fields @ .., room] => Some(finish(playing(fields)?, lent(room)?)),
         _ => None,
     }
 }
@@ -128,6 +142,24 @@ fn heard(octets: &[u8], count: &[u8]) -> Option<Heard> {
 
 fn walking(octets: &[u8], count: &[u8], next: &[u8], marks: &[u8]) -> Option<Walk> {
     Some(Walk { heard: heard(octets, count)?, next: number(next)?, marks: number(marks)? })
+}
+
+fn playing(fields: &[&[u8]]) -> Option<Play> {
+    let [octets, count, key, iov, sapi, direction, next, ref fields @ ..] = *fields else {
+        return None;
+    };
+    let phone = Sender { link: link(key, iov, sapi, direction)?, next: number(next)? };
+    let [key, iov, sapi, direction, next, marks, frames, sizes] = *fields else {
+        return None;
+    };
+    let link = link(key, iov, sapi, direction)?;
+    Some(Play {
+        heard: heard(octets, count)?,
+        phone,
+        cell: Receiver { link, next: number(next)?, marks: number(marks)? },
+        frames: octets_field(frames)?.try_into().ok()?,
+        sizes: octets_field(sizes)?.try_into().ok()?,
+    })
 }
 
 #[cfg(test)]

@@ -3,12 +3,14 @@
 
 use super::{call_forms, spoiled, KEY, NEAR_HEX};
 use crate::call::form::shown;
+use crate::demo::Play;
 use crate::hearing::{Heard, Hearing, Walk, PLACES};
 use crate::random::Random;
 
-/// The rooms of the longest answers of `stream` and of `walk`.
+/// The rooms of the longest answers of `stream`, of `walk` and of `demo`.
 const STREAM_ROOM: usize = Heard::ROOM;
 const WALK_ROOM: usize = Walk::ROOM;
+const BENCH_ROOM: usize = Play::ROOM;
 
 /// Octets that end no line, and those that do so elsewhere.
 const OCTETS: [u8; 7] = [b'\n', 0, b'\r', b' ', b'0', b'?', 255];
@@ -37,6 +39,9 @@ pub fn lines() -> Vec<String> {
         walk_lines(),
         stream_runs(),
         walk_runs(),
+        bench_headers(),
+        bench_lines(),
+        bench_runs(),
         bad_lines(),
         random_texts(),
     ];
@@ -131,7 +136,9 @@ fn put_texts() -> Vec<String> {
 }
 
 fn starts() -> Vec<String> {
-    ["silence", "too_long", "requests_start", "walks_start"].map(str::to_string).to_vec()
+    ["silence", "too_long", "requests_start", "walks_start", "bench_start"]
+        .map(str::to_string)
+        .to_vec()
 }
 
 /// Places that each hold another octet, so that a wrong one shows.
@@ -276,6 +283,64 @@ fn walk_runs() -> Vec<String> {
     })
 }
 
+fn bench_headers() -> Vec<String> {
+    rooms(BENCH_ROOM).iter().map(|room| format!("bench_header {room}")).collect()
+}
+
+/// The fields of a play.
+fn playing(play: &Play) -> String {
+    let Play { heard, phone, cell, frames, sizes } = play;
+    format!("{} {phone} {cell} {} {}", form(heard), shown(frames), shown(sizes))
+}
+
+/// Every command at states that a run reaches and at others: ends of no link, numbers at their
+/// end, marks that cannot be, sizes past a place.
+fn bench_lines() -> Vec<String> {
+    let mut random = Random::seeded(14);
+    let commands = "|#|# a|pass a|pass |lose 2|lose 0|lose 1000|keep 3 b|keep 3 |keep x b|give 3|give 9\
+        |give 10|noise 00|noise 0005013000000A|noise 0|noise |?|pass 0123456789012345678901234567890123456789\
+        |pass 01234567890123456789012345678901234567890|keep 9 0123456789012345678901234567890123456789";
+    let mut plays = vec![Play::start()];
+    for next in [511, 512, 134_217_726, 134_217_727, 134_217_728, u32::MAX] {
+        let mut play = Play::start();
+        (play.phone.next, play.cell.next, play.cell.marks) = (next, next, 1);
+        plays.push(play);
+    }
+    let mut odd = Play::start();
+    odd.phone.link.direction = 2;
+    odd.cell.link.sapi = 16;
+    (odd.frames, odd.sizes) = ([0x41; 460], [0, 1, 6, 7, 45, 46, 47, 100, 200, 255]);
+    plays.push(odd);
+    let mut lines = vec!["bench_start".to_string()];
+    for command in commands.split('|') {
+        for play in &plays {
+            let play = playing(&Play { heard: heard(command), ..*play });
+            lines.push(format!("bench_hear {play} 10 {BENCH_ROOM}"));
+            lines.push(format!("bench_finish {play} {BENCH_ROOM}"));
+        }
+        let play = playing(&Play { heard: heard(command), ..plays[0] });
+        for room in rooms(BENCH_ROOM) {
+            lines.push(format!("bench_hear {play} {} {room}", random.one_of(&OCTETS)));
+            lines.push(format!("bench_finish {play} {room}"));
+        }
+    }
+    for count in COUNTS {
+        let play = playing(&Play { heard: Heard { count, ..heard("pass a") }, ..plays[0] });
+        lines.push(format!("bench_hear {play} 10 {BENCH_ROOM}"));
+        lines.push(format!("bench_hear {play} 98 {BENCH_ROOM}"));
+        lines.push(format!("bench_finish {play} {BENCH_ROOM}"));
+    }
+    lines
+}
+
+/// A script octet by octet.
+fn bench_runs() -> Vec<String> {
+    let input = "pass a\nkeep 2 b\nlose 479\npass c\ngive 2\n\n# d\ngive 2";
+    run(Play::start(), input, |call, state, octet| {
+        format!("bench_{call} {}{octet} {BENCH_ROOM}", playing(state))
+    })
+}
+
 /// A good line of each call that has fields.
 fn good_lines() -> Vec<String> {
     let heard = form(&heard("12"));
@@ -292,6 +357,9 @@ fn good_lines() -> Vec<String> {
         format!("walks_header {WALK_ROOM}"),
         format!("walks_hear {heard} 4 11 10 {WALK_ROOM}"),
         format!("walks_finish {heard} 4 11 {WALK_ROOM}"),
+        format!("bench_header {BENCH_ROOM}"),
+        format!("bench_hear {} 10 {BENCH_ROOM}", playing(&Play::start())),
+        format!("bench_finish {} {BENCH_ROOM}", playing(&Play::start())),
     ]
 }
 
