@@ -1,8 +1,7 @@
 -- The laws of the script: columns joined to a line, the words of a line, and what is done for each.
 -- Assumes nothing.
-use Prim.Native.Nat.{ℕ, _+_, _-_, _*_, _^_, _≤_, _<_}
+use Prim.Native.Nat.{ℕ, _+_, _-_, _*_, _≤_, _<_}
 use native.Mathlib.Nat.{not-suc-le-zero, le-of-suc-le-suc, lt-of-lt-of-le, pow-le-pow-right}
-use native.Mathlib.Numerals.{add-one}
 use native.Mathlib.Omega.{arith}
 use mathlib.Core.Path.{_≡_, refl, sym, ap, ap₂, subst, _∙_}
 use mathlib.Core.Bool.{Bool, true, false, cond, _&&_}
@@ -12,7 +11,7 @@ use lib.Dec.{eqb, lit≤}
 use lib.ListN.{length, getD, take, drop, set, length-append}
 use lib.Seq.{drop-length}
 use Rattle.lines.specs.Digits.{within, numberOf, isNumber, NumberCall}
-use Rattle.lines.specs.Text.{isHex, hexOctets, HexCall, decimalText, Answered, Added}
+use Rattle.lines.specs.Text.{isHex, HexCall, decimalText, Answered, Added}
 use Rattle.lines.proofs.Answered.{answered-added}
 use Rattle.lines.proofs.Determined.{number-none, number-read, number-refused, put-read, hex-fits, hex-read}
 use Rattle.lines.proofs.Digits.{by-test, within-both, within-below, within-above, within-to, from-place, number-below, number-size, number-digits}

@@ -8,7 +8,6 @@ use lib.ListN.{length, getD, drop}
 use Rattle.lines.specs.Digits.{within, numberOf, isNumber}
 use Rattle.lines.specs.Text.{isHex, hexOctets, decimalText, Answered, Added}
 use Rattle.link.specs.declared.Receiver.{Receiver}
-use Rattle.link.specs.declared.Sealed.{Sealed}
 use Rattle.bench.specs.declared.Bench.{Bench}
 use Rattle.bench.specs.declared.script.Handed.{Handed}
 use Rattle.bench.specs.declared.script.Stepped.{Stepped}

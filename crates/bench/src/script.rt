@@ -4,7 +4,7 @@ ghost use Prim.Native.Nat.{_+_, _*_, _≤_, _<_, min};
 ghost use lib.ListN.{length, drop, take};
 ghost use Rattle.lines.specs.Text.{Added};
 ghost use Rattle.bench.specs.Bench.{room as Bench·room};
-ghost use Rattle.bench.specs.Ends.{sealed as Ends·sealed, sealedFrame, lostText, phoneAfter, frameKept};
+ghost use Rattle.bench.specs.Ends.{sealed as Ends·sealed, sealedFrame, lostText, phoneAfter};
 ghost use Rattle.bench.specs.Script.{passing, losing, keeping, giving, noising, nothing as Script·nothing, remarking, begins as Script·begins, countOf, placeOf, loseLine, keepLine, giveLine, noiseLine, commanded, obeyed, silentColumns, HandCall, StepCall};
 use crate::Bench;
 use crate::Shelf;

@@ -6,9 +6,9 @@ ghost use Prim.Native.Nat.{_≤_};
 ghost use lib.ListN.{length};
 ghost use Rattle.lines.specs.Hearing.{heardAfter};
 ghost use Rattle.bench.specs.Bench.{room, benchRules, standing};
+use bench::Play;
 use libc::STDIN_FILENO;
 use libc::STDOUT_FILENO;
-use bench::Play;
 
 // Where the play stands, and whether to go on. Where a write has failed nothing is left to answer.
 struct Moved {

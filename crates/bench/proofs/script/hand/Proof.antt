@@ -6,7 +6,7 @@ use lib.ListN.{length, take}
 use lib.Seq.{length-take-le}
 use mathlib.Core.Path.{_≡_, sym}
 use native.Mathlib.Omega.{arith}
-use Rattle.bench.specs.Ends.{frameRoom, opened, openedText}
+use Rattle.bench.specs.Ends.{frameRoom, opened}
 use Rattle.bench.proofs.Ends.{open-answers, open-text, opened-known, opened-fits}
 use Rattle.bench.proofs.Steps.{handed}
 use borrow.Author.Needs.{needs}
