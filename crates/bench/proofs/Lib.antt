@@ -4,6 +4,7 @@ pub mod Determined
 pub mod Ends
 pub mod Example
 pub mod Kept
+pub mod Lines
 pub mod Run
 pub mod Steps
 pub mod Texts
