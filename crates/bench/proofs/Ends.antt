@@ -1,15 +1,15 @@
 -- The laws of the ends: what a seal and an opened frame answer is what their definitions say, and what the shelf keeps.
 -- Assumes nothing.
-use Prim.Native.Nat.{ℕ, _+_, _-_, _≤_, _<_}
+use Prim.Native.Nat.{ℕ, _+_, _-_, _≤_}
 use native.Mathlib.Numerals.{add-one}
 use native.Mathlib.Omega.{arith}
-use mathlib.Core.Path.{_≡_, refl, sym, ap, ap₂, subst, _∙_}
+use mathlib.Core.Path.{_≡_, refl, sym, ap, ap₂, _∙_}
 use mathlib.Core.Bool.{Bool, true, false, cond, _&&_}
 use mathlib.Core.List.{List, [], _∷_, _++_, append-assoc}
 use borrow.Author.Tests.{eqb-true, ltb-false, leb-true}
 use lib.Dec.{eqb, leb, lit≤}
-use lib.ListN.{length, take, drop, replicate, length-take, length-drop, take-append-drop}
-use lib.Seq.{length-take-le, drop-drop, drop-append-le, take-append-seam}
+use lib.ListN.{length, take, drop, length-take, length-drop, take-append-drop}
+use lib.Seq.{drop-drop, drop-append-le, take-append-seam}
 use Rattle.refusals.specs.Refusal.{Row, first, lent, absent, distinct, rowAt}
 use Rattle.refusals.proofs.Laws.{then-and-only-then}
 use Rattle.lines.specs.Text.{Added}

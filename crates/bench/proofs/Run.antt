@@ -13,7 +13,7 @@ use Rattle.bench.specs.declared.Bench.{Bench}
 use Rattle.bench.specs.declared.Play.{Play}
 use Rattle.bench.specs.Script.{Step, obeyed}
 use Rattle.bench.specs.Bench.{room, answer, after, benchRules, standing, benchStart, start, benchOutput, HeaderCall}
-use Rattle.bench.proofs.Steps.{is-long}
+use Rattle.bench.proofs.Lines.{is-long}
 
 -- a line that is too long is answered, and changes the bench, like any other that is
 long-same : (bench : Bench) (line : List ℕ) → 48 < length line → obeyed bench line ≡ obeyed bench tooLong

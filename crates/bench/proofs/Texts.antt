@@ -8,8 +8,8 @@ use mathlib.Core.Path.{_≡_, refl, sym, ap, ap₂, _∙_}
 use mathlib.Core.Bool.{true, false, _&&_}
 use mathlib.Core.List.{List, [], _∷_, _++_, append-assoc, append-nil}
 use borrow.Author.Tests.{eq-eqb, ne-eqb}
-use lib.Dec.{eqb, lit≤}
-use lib.ListN.{length, getD, take, drop, set, replicate, length-append, length-take, length-drop, take-append-drop}
+use lib.Dec.{lit≤}
+use lib.ListN.{length, getD, take, drop, set, replicate, length-append, length-drop, take-append-drop}
 use lib.Seq.{length-take-le, take-append-seam, take-suc, take-at, drop-at, drop-drop, drop-append-le, drop-length, take-length}
 use Rattle.lines.specs.Digits.{within}
 use Rattle.refusals.specs.Refusal.{lent}
@@ -17,8 +17,7 @@ use Rattle.lines.specs.Text.{decimalText, Answered, Added}
 use Rattle.lines.proofs.Digits.{within-both, within-below, within-above, from-place}
 use Rattle.lines.proofs.InDecimal.{decimal-one, length-more}
 use Rattle.lines.proofs.Text.{front-store}
-use Rattle.link.specs.Open.{givesNumber}
-use Rattle.bench.specs.Columns.{column, words, word, numberText, shown, shownText, textColumn, allPrintable}
+use Rattle.bench.specs.Columns.{column, words, shown, shownText, textColumn, allPrintable}
 
 -- ---- a text over another, and a text after another
 

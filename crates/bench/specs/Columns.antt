@@ -12,9 +12,9 @@ use Rattle.link.specs.Open.{givesNumber}
 unfoldable pub column : List ℕ → List ℕ
 column text = text ++ drop (length text) (replicate 11 32)
 
--- the words of an answer, each filled up to ten octets. From 0 to 12 a word is the refusal of that number, with its reason; 13 stands for nothing;
--- 14 and 15 say what the box did; 16 to 22 say why a line is bad, and 23 that it is:
--- 0 `ok`, 1 `1 key`, 2 `2 range`, 3 `3 size`, 4 `4 room`, 5 `5 length`, 6 `6 version`, 7 `7 spare`, 8 `8 other`, 9 `9 start`, 10 `10 end`, 11 `11 repeat`, 12 `12 state`, 13 `-`, 14 `passed`, 15 `handed`, 16 `long`, 17 `empty`, 18 `octet`, 19 `command`, 20 `count`, 21 `place`, 22 `hex`, 23 `?`
+-- the words of an answer, each filled up to ten octets. From 0 to 12 a word is the refusal of that number, with its reason: `ok`, `1 key`, `2 range`,
+-- `3 size`, `4 room`, `5 length`, `6 version`, `7 spare`, `8 other`, `9 start`, `10 end`, `11 repeat`, `12 state`. Then come `-`, `passed`, `handed`;
+-- why a line is bad: `long`, `empty`, `octet`, `command`, `count`, `place`, `hex`; and `?`
 unfoldable pub words : List ℕ
 words =
     111 ∷ 107 ∷ 32 ∷ 32 ∷ 32 ∷ 32 ∷ 32 ∷ 32 ∷ 32 ∷ 32 ∷
@@ -46,6 +46,40 @@ words =
 unfoldable pub word : ℕ → List ℕ
 word k = take 10 (drop (10 * k) words)
 
+-- the words that are no refusals, by their places in the table
+abbrev pub saysNothing : ℕ
+saysNothing = 13
+
+abbrev pub saysPassed : ℕ
+saysPassed = 14
+
+abbrev pub saysHanded : ℕ
+saysHanded = 15
+
+abbrev pub saysLong : ℕ
+saysLong = 16
+
+abbrev pub saysEmpty : ℕ
+saysEmpty = 17
+
+abbrev pub saysOctet : ℕ
+saysOctet = 18
+
+abbrev pub saysCommand : ℕ
+saysCommand = 19
+
+abbrev pub saysCount : ℕ
+saysCount = 20
+
+abbrev pub saysPlace : ℕ
+saysPlace = 21
+
+abbrev pub saysHex : ℕ
+saysHex = 22
+
+abbrev pub saysBad : ℕ
+saysBad = 23
+
 -- `kept `, `gave ` and `lost `, after which stand a place or a count
 unfoldable pub keptWord : List ℕ
 keptWord = 107 ∷ 101 ∷ 112 ∷ 116 ∷ 32 ∷ []
@@ -58,7 +92,7 @@ lostWord = 108 ∷ 111 ∷ 115 ∷ 116 ∷ 32 ∷ []
 
 -- what the cell's number column shows: the number where one is given, and else nothing
 unfoldable pub numberText : ℕ → ℕ → List ℕ
-numberText answer number = cond (givesNumber answer) (decimalText number) (word 13)
+numberText answer number = cond (givesNumber answer) (decimalText number) (word saysNothing)
 
 -- an octet as it is shown: printable ASCII as itself, any other as a full stop (46)
 unfoldable pub shown : ℕ → ℕ

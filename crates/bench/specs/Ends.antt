@@ -6,7 +6,7 @@ use mathlib.Core.List.{List, [], _∷_, _++_}
 use lib.Dec.{eqb}
 use lib.ListN.{length, getD, take, drop, set, replicate}
 use Rattle.refusals.specs.Refusal.{first}
-use Rattle.numbering.specs.Numbering.{start as Numbering·start, accepted}
+use Rattle.numbering.specs.Numbering.{accepted}
 use Rattle.frames.specs.Frame.{payloadOf}
 use Rattle.link.specs.declared.Link.{Link}
 use Rattle.link.specs.declared.Sender.{Sender}

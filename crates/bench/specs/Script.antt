@@ -8,11 +8,10 @@ use lib.ListN.{length, getD, drop}
 use Rattle.lines.specs.Digits.{within, numberOf, isNumber}
 use Rattle.lines.specs.Text.{isHex, hexOctets, decimalText, Answered, Added}
 use Rattle.link.specs.declared.Receiver.{Receiver}
-use Rattle.link.specs.declared.Sealed.{Sealed}
 use Rattle.bench.specs.declared.Bench.{Bench}
-use Rattle.bench.specs.declared.script.Handed.{Handed}
-use Rattle.bench.specs.declared.script.Stepped.{Stepped}
-use Rattle.bench.specs.Columns.{column, word, keptWord, gaveWord, lostWord, cellColumns, allPrintable}
+use Rattle.bench.specs.declared.acts.Handed.{Handed}
+use Rattle.bench.specs.declared.acts.Stepped.{Stepped}
+use Rattle.bench.specs.Columns.{column, word, saysNothing, saysPassed, saysHanded, saysLong, saysEmpty, saysOctet, saysCommand, saysCount, saysPlace, saysHex, saysBad, keptWord, gaveWord, lostWord, cellColumns, allPrintable}
 use Rattle.bench.specs.Ends.{sealed, sealedFrame, lostText, phoneAfter, opened, openedText, frameKept, shelved}
 
 -- what is done for a line: the bench afterwards, and the answer
@@ -33,7 +32,7 @@ handedColumns cell octets =
 
 -- and where it is handed nothing: only its next number is shown
 unfoldable pub silentColumns : Receiver → List ℕ
-silentColumns cell = cellColumns 13 0 (cell .numbering .next) []
+silentColumns cell = cellColumns saysNothing 0 (cell .numbering .next) []
 
 -- ---- what is done
 
@@ -44,7 +43,7 @@ passing bench text =
     let frame = sealedFrame (bench .phone) text in
     record {
       bench = record { phone = given .sender; cell = opened (bench .cell) frame .receiver; shelf = bench .shelf };
-      said = column (phoneText (given .refusal) (given .number)) ++ (column (word 14) ++ handedColumns (bench .cell) frame);
+      said = column (phoneText (given .refusal) (given .number)) ++ (column (word saysPassed) ++ handedColumns (bench .cell) frame);
     }
 
 -- the phone seals so many frames, one at least, and the box loses them all; the phone's column shows the last of them
@@ -71,19 +70,19 @@ giving bench k =
     let frame = frameKept (bench .shelf) k in
     record {
       bench = record { phone = bench .phone; cell = opened (bench .cell) frame .receiver; shelf = bench .shelf };
-      said = column (word 13) ++ (column (gaveWord ++ decimalText k) ++ handedColumns (bench .cell) frame);
+      said = column (word saysNothing) ++ (column (gaveWord ++ decimalText k) ++ handedColumns (bench .cell) frame);
     }
 
 -- the box hands octets of its own to the cell
 unfoldable pub noising : Bench → List ℕ → Step
 noising bench octets = record {
   bench = record { phone = bench .phone; cell = opened (bench .cell) octets .receiver; shelf = bench .shelf };
-  said = column (word 13) ++ (column (word 15) ++ handedColumns (bench .cell) octets);
+  said = column (word saysNothing) ++ (column (word saysHanded) ++ handedColumns (bench .cell) octets);
 }
 
 -- nothing is done for a bad line: a question mark, and the word that says why
 unfoldable pub nothing : Bench → ℕ → Step
-nothing bench why = record { bench = bench; said = column (word 23) ++ (column (word why) ++ silentColumns (bench .cell)) }
+nothing bench why = record { bench = bench; said = column (word saysBad) ++ (column (word why) ++ silentColumns (bench .cell)) }
 
 -- a remark is answered by itself
 unfoldable pub remarking : Bench → List ℕ → Step
@@ -126,26 +125,26 @@ placeOf octet = cond (within 48 57 octet) (octet - 48) 10
 
 -- `lose COUNT`, by what stands after `lose `
 unfoldable pub loseLine : Bench → List ℕ → Step
-loseLine bench rest = cond (eqb (countOf rest) 0) (nothing bench 20) (losing bench (countOf rest))
+loseLine bench rest = cond (eqb (countOf rest) 0) (nothing bench saysCount) (losing bench (countOf rest))
 
 -- `keep K TEXT`: a place, a space, and the text
 unfoldable pub keepLine : Bench → List ℕ → Step
 keepLine bench rest =
-    cond (ltb (length rest) 2) (nothing bench 21)
-    (cond (ltb 9 (placeOf (getD rest 0 0))) (nothing bench 21)
+    cond (ltb (length rest) 2) (nothing bench saysPlace)
+    (cond (ltb 9 (placeOf (getD rest 0 0))) (nothing bench saysPlace)
     (cond (eqb (getD rest 1 0) 32) (keeping bench (placeOf (getD rest 0 0)) (drop 2 rest))
-    (nothing bench 21)))
+    (nothing bench saysPlace)))
 
 -- `give K`: a place and no more
 unfoldable pub giveLine : Bench → List ℕ → Step
 giveLine bench rest =
     cond (eqb (length rest) 1)
-    (cond (ltb 9 (placeOf (getD rest 0 0))) (nothing bench 21) (giving bench (placeOf (getD rest 0 0))))
-    (nothing bench 21)
+    (cond (ltb 9 (placeOf (getD rest 0 0))) (nothing bench saysPlace) (giving bench (placeOf (getD rest 0 0))))
+    (nothing bench saysPlace)
 
 -- `noise HEX`: pairs of hex digits
 unfoldable pub noiseLine : Bench → List ℕ → Step
-noiseLine bench rest = cond (isHex rest) (noising bench (hexOctets rest)) (nothing bench 22)
+noiseLine bench rest = cond (isHex rest) (noising bench (hexOctets rest)) (nothing bench saysHex)
 
 -- a line that is a command, by its first word
 unfoldable pub commanded : Bench → List ℕ → Step
@@ -155,14 +154,14 @@ commanded bench line =
     (cond (begins keepWord line) (keepLine bench (drop 5 line))
     (cond (begins giveWord line) (giveLine bench (drop 5 line))
     (cond (begins noiseWord line) (noiseLine bench (drop 6 line))
-    (nothing bench 19)))))
+    (nothing bench saysCommand)))))
 
 -- any line: one that is too long, empty, or not printable is bad; one that begins with `#` is a remark
 unfoldable pub obeyed : Bench → List ℕ → Step
 obeyed bench line =
-    cond (ltb 48 (length line)) (nothing bench 16)
-    (cond (eqb (length line) 0) (nothing bench 17)
-    (cond (not (allPrintable line)) (nothing bench 18)
+    cond (ltb 48 (length line)) (nothing bench saysLong)
+    (cond (eqb (length line) 0) (nothing bench saysEmpty)
+    (cond (not (allPrintable line)) (nothing bench saysOctet)
     (cond (begins remarkWord line) (remarking bench line)
     (commanded bench line))))
 

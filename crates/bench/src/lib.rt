@@ -1,5 +1,6 @@
 // A bench in the terminal: a phone end that seals numbered lines, a box that loses, repeats and reorders them, and a cell end that opens them, by a
 // script of one command a line. How lines are heard is the crate `lines`, and what the two ends do is the crate `link`.
+mod acts;
 mod columns;
 mod script;
 
@@ -10,11 +11,11 @@ ghost use Rattle.lines.specs.Hearing.{heardLine};
 ghost use Rattle.bench.specs.Ends.{emptyShelf};
 ghost use Rattle.bench.specs.Script.{obeyed, StepCall};
 ghost use Rattle.bench.specs.Bench.{room as Bench·room, benchStart, start as Bench·start, HeaderCall, HearCall, FinishCall};
+use acts::Stepped;
 use lines::Heard;
 use lines::Put;
 use link::Receiver;
 use link::Sender;
-use script::Stepped;
 
 // What ends a line.
 const LINE_FEED: u8 = b'\n';

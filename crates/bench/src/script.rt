@@ -1,232 +1,13 @@
-// What a line of the script asks for: the phone seals, the box passes, loses, keeps or gives, and the cell opens.
+// The lines of a script: which command a line is, and what it is done with.
 ghost use mathlib.Core.Path.{_≡_};
-ghost use Prim.Native.Nat.{_+_, _*_, _≤_, _<_, min};
-ghost use lib.ListN.{length, drop, take};
-ghost use Rattle.lines.specs.Text.{Added};
+ghost use Prim.Native.Nat.{_≤_, _<_};
+ghost use lib.ListN.{length, drop};
 ghost use Rattle.bench.specs.Bench.{room as Bench·room};
-ghost use Rattle.bench.specs.Ends.{sealed as Ends·sealed, sealedFrame, lostText, phoneAfter, frameKept};
-ghost use Rattle.bench.specs.Script.{passing, losing, keeping, giving, noising, nothing as Script·nothing, remarking, begins as Script·begins, countOf, placeOf, loseLine, keepLine, giveLine, noiseLine, commanded, obeyed, silentColumns, HandCall, StepCall};
+ghost use Rattle.bench.specs.Script.{begins as Script·begins, countOf, placeOf, loseLine, keepLine, giveLine, noiseLine, commanded, obeyed, StepCall};
 use crate::Bench;
-use crate::Shelf;
+use crate::acts;
+use crate::acts::Stepped;
 use crate::columns;
-use link::Receiver;
-use link::Sealed;
-use link::Sender;
-
-// The bench after a line, and how many octets its answer has.
-pub(crate) struct Stepped {
-    pub bench: Bench,
-    pub written: usize,
-}
-
-// The cell after what it was handed, and where the line that shows its answer ends.
-pub(crate) struct Handed {
-    pub cell: Receiver,
-    pub end: usize,
-}
-
-// ---- the three on the bench
-
-// Seals a text into the 46 octets from a place on.
-fn seal_at(phone: Sender, text: &[u8], frames: &mut [u8], from: usize) -> Sealed
-    requires { ⌜ from + 46 ≤ length (now frames) ⌝ }
-    ensures { λ r. ⌜ (r ≡ Ends·sealed phone (now (text .entry))) × Added (sealedFrame phone (now (text .entry))) (now (frames .entry)) from (from + r .size) (now (frames .exit)) ⌝ }
-{
-    let end = from + 46;
-    link::seal(phone, text, &mut frames[from..end])
-}
-
-// Seals the text of a frame that is lost.
-fn seal_lost(phone: Sender) -> Sealed
-    ensures { λ r. ⌜ r ≡ Ends·sealed phone lostText ⌝ }
-{
-    let mut frame = [0u8; 46];
-    seal_at(phone, b"lost", &mut frame, 0)
-}
-
-// The phone after sealing that text so many times.
-fn seal_times(phone: Sender, times: u32) -> Sender
-    ensures { λ r. ⌜ r ≡ phoneAfter times phone ⌝ }
-{
-    let mut so_far = phone;
-    let mut i = 0;
-    while i < times {
-        let sealed = seal_lost(so_far);
-        let next = sealed.sender;
-        so_far = next;
-        i += 1;
-    }
-    so_far
-}
-
-// The frame at a place of the shelf.
-fn frame_at(frames: &[u8], k: usize, size: u8) -> &[u8]
-    requires { ⌜ (k < 10) × (length (now frames) ≡ 460) ⌝ }
-    ensures { λ r. ⌜ now r ≡ take (min size 46) (drop (46 * k) (now (frames .entry))) ⌝ }
-{
-    let from = 46 * k;
-    if 46 < size {
-        let most = from + 46;
-        return &frames[from..most];
-    }
-    let end = from + size as usize;
-    &frames[from..end]
-}
-
-// Hands octets to the cell, and shows its answer.
-fn hand(cell: Receiver, octets: &[u8], output: &mut [u8]) -> Handed
-    requires { ⌜ Bench·room ≤ length (now output) ⌝ }
-    ensures { λ r. ⌜ HandCall cell (now (octets .entry)) (now (output .entry)) r (now (output .exit)) ⌝ }
-{
-    let mut text = [0u8; 46];
-    let opened = link::open(cell, octets, &mut text);
-    let size = opened.size;
-    let after = opened.receiver;
-    let numbering = after.numbering;
-    let end = columns::add_cell(
-        opened.refusal,
-        opened.number,
-        numbering.next,
-        &text[..size],
-        output,
-    );
-    Handed { cell: after, end }
-}
-
-// Shows that the cell is handed nothing, and answers where the line ends.
-fn hand_nothing(cell: Receiver, output: &mut [u8]) -> usize
-    requires { ⌜ Bench·room ≤ length (now output) ⌝ }
-    ensures { λ r. ⌜ Added (silentColumns cell) (now (output .entry)) 22 r (now (output .exit)) ⌝ }
-{
-    let numbering = cell.numbering;
-    columns::add_cell(columns::NOTHING, 0, numbering.next, b"", output)
-}
-
-// ---- what is done for a line
-
-// The phone seals a text, and the box hands the frame to the cell.
-fn pass(bench: Bench, text: &[u8], output: &mut [u8]) -> Stepped
-    requires { ⌜ Bench·room ≤ length (now output) ⌝ }
-    ensures { λ r. ⌜ StepCall (passing bench (now (text .entry))) (now (output .entry)) r (now (output .exit)) ⌝ }
-{
-    let mut frame = [0u8; 46];
-    let sealed = seal_at(bench.phone, text, &mut frame, 0);
-    columns::add_sealed(sealed.refusal, sealed.number, output);
-    columns::add_word(columns::PASSED, output, columns::WIDTH);
-    let size = sealed.size;
-    let handed = hand(bench.cell, &frame[..size], output);
-    let phone = sealed.sender;
-    let cell = handed.cell;
-    let shelf = bench.shelf;
-    Stepped {
-        bench: Bench { phone, cell, shelf },
-        written: handed.end,
-    }
-}
-
-// The phone seals so many frames, and the box loses them all.
-fn lose(bench: Bench, count: u32, output: &mut [u8]) -> Stepped
-    requires { ⌜ (0 < count) × ((count < 1000) × (Bench·room ≤ length (now output))) ⌝ }
-    ensures { λ r. ⌜ StepCall (losing bench count) (now (output .entry)) r (now (output .exit)) ⌝ }
-{
-    let before = seal_times(bench.phone, count - 1);
-    let sealed = seal_lost(before);
-    columns::add_sealed(sealed.refusal, sealed.number, output);
-    columns::add_counted(b"lost ", count, output, columns::WIDTH);
-    let written = hand_nothing(bench.cell, output);
-    let phone = sealed.sender;
-    let cell = bench.cell;
-    let shelf = bench.shelf;
-    Stepped {
-        bench: Bench { phone, cell, shelf },
-        written,
-    }
-}
-
-// The phone seals a text, and the box keeps the frame at place k.
-fn keep(bench: Bench, k: usize, text: &[u8], output: &mut [u8]) -> Stepped
-    requires { ⌜ (k < 10) × (Bench·room ≤ length (now output)) ⌝ }
-    ensures { λ r. ⌜ StepCall (keeping bench k (now (text .entry))) (now (output .entry)) r (now (output .exit)) ⌝ }
-{
-    let old = bench.shelf;
-    let mut frames = old.frames;
-    let mut sizes = old.sizes;
-    let sealed = seal_at(bench.phone, text, &mut frames, 46 * k);
-    sizes[k] = sealed.size as u8;
-    columns::add_sealed(sealed.refusal, sealed.number, output);
-    columns::add_counted(b"kept ", k as u32, output, columns::WIDTH);
-    let written = hand_nothing(bench.cell, output);
-    let phone = sealed.sender;
-    let cell = bench.cell;
-    let shelf = Shelf { frames, sizes };
-    Stepped {
-        bench: Bench { phone, cell, shelf },
-        written,
-    }
-}
-
-// The box hands the frame kept at place k to the cell, and still keeps it.
-fn give(bench: Bench, k: usize, output: &mut [u8]) -> Stepped
-    requires { ⌜ (k < 10) × (Bench·room ≤ length (now output)) ⌝ }
-    ensures { λ r. ⌜ StepCall (giving bench k) (now (output .entry)) r (now (output .exit)) ⌝ }
-{
-    let shelf = bench.shelf;
-    let frames = shelf.frames;
-    let sizes = shelf.sizes;
-    let size = sizes[k];
-    columns::add_word(columns::NOTHING, output, 0);
-    columns::add_counted(b"gave ", k as u32, output, columns::WIDTH);
-    let handed = hand(bench.cell, frame_at(&frames, k, size), output);
-    let phone = bench.phone;
-    let cell = handed.cell;
-    Stepped {
-        bench: Bench { phone, cell, shelf },
-        written: handed.end,
-    }
-}
-
-// The box hands octets of its own to the cell.
-fn noise(bench: Bench, octets: &[u8], output: &mut [u8]) -> Stepped
-    requires { ⌜ Bench·room ≤ length (now output) ⌝ }
-    ensures { λ r. ⌜ StepCall (noising bench (now (octets .entry))) (now (output .entry)) r (now (output .exit)) ⌝ }
-{
-    columns::add_word(columns::NOTHING, output, 0);
-    columns::add_word(columns::HANDED, output, columns::WIDTH);
-    let handed = hand(bench.cell, octets, output);
-    let phone = bench.phone;
-    let cell = handed.cell;
-    let shelf = bench.shelf;
-    Stepped {
-        bench: Bench { phone, cell, shelf },
-        written: handed.end,
-    }
-}
-
-// Nothing is done for a bad line.
-fn nothing(bench: Bench, why: u8, output: &mut [u8]) -> Stepped
-    requires { ⌜ (why < 24) × (Bench·room ≤ length (now output)) ⌝ }
-    ensures { λ r. ⌜ StepCall (Script·nothing bench why) (now (output .entry)) r (now (output .exit)) ⌝ }
-{
-    columns::add_word(columns::BAD, output, 0);
-    columns::add_word(why, output, columns::WIDTH);
-    let written = hand_nothing(bench.cell, output);
-    Stepped { bench, written }
-}
-
-// A remark is answered by itself.
-fn remark(bench: Bench, line: &[u8], output: &mut [u8]) -> Stepped
-    requires { ⌜ (length (now line) ≤ 48) × (Bench·room ≤ length (now output)) ⌝ }
-    ensures { λ r. ⌜ StepCall (remarking bench (now (line .entry))) (now (output .entry)) r (now (output .exit)) ⌝ }
-{
-    let end = lines::put_text(line, output).count;
-    output[end] = b'\n';
-    Stepped {
-        bench,
-        written: end + 1,
-    }
-}
-
-// ---- the lines
 
 // Whether the line begins with the word.
 fn begins(word: &[u8], line: &[u8]) -> bool
@@ -283,9 +64,9 @@ fn lose_line(bench: Bench, rest: &[u8], output: &mut [u8]) -> Stepped
 {
     let count = count_of(rest);
     if count == 0 {
-        return nothing(bench, columns::COUNT, output);
+        return acts::nothing(bench, columns::COUNT, output);
     }
-    lose(bench, count, output)
+    acts::lose(bench, count, output)
 }
 
 // `keep K TEXT`, by what stands after `keep `.
@@ -294,16 +75,16 @@ fn keep_line(bench: Bench, rest: &[u8], output: &mut [u8]) -> Stepped
     ensures { λ r. ⌜ StepCall (keepLine bench (now (rest .entry))) (now (output .entry)) r (now (output .exit)) ⌝ }
 {
     if rest.len() < 2 {
-        return nothing(bench, columns::PLACE, output);
+        return acts::nothing(bench, columns::PLACE, output);
     }
     let k = place_of(rest[0]);
     if 9 < k {
-        return nothing(bench, columns::PLACE, output);
+        return acts::nothing(bench, columns::PLACE, output);
     }
     if rest[1] == b' ' {
-        return keep(bench, k, &rest[2..], output);
+        return acts::keep(bench, k, &rest[2..], output);
     }
-    nothing(bench, columns::PLACE, output)
+    acts::nothing(bench, columns::PLACE, output)
 }
 
 // `give K`, by what stands after `give `.
@@ -314,11 +95,11 @@ fn give_line(bench: Bench, rest: &[u8], output: &mut [u8]) -> Stepped
     if rest.len() == 1 {
         let k = place_of(rest[0]);
         if 9 < k {
-            return nothing(bench, columns::PLACE, output);
+            return acts::nothing(bench, columns::PLACE, output);
         }
-        return give(bench, k, output);
+        return acts::give(bench, k, output);
     }
-    nothing(bench, columns::PLACE, output)
+    acts::nothing(bench, columns::PLACE, output)
 }
 
 // `noise HEX`, by what stands after `noise `.
@@ -329,10 +110,10 @@ fn noise_line(bench: Bench, rest: &[u8], output: &mut [u8]) -> Stepped
     let mut octets = [0u8; 46];
     let put = lines::octets_of_hex(rest, &mut octets);
     if put.refusal != 0 {
-        return nothing(bench, columns::HEX, output);
+        return acts::nothing(bench, columns::HEX, output);
     }
     let count = put.count;
-    noise(bench, &octets[..count], output)
+    acts::noise(bench, &octets[..count], output)
 }
 
 // A line that is a command, by its first word.
@@ -341,7 +122,7 @@ fn command(bench: Bench, line: &[u8], output: &mut [u8]) -> Stepped
     ensures { λ r. ⌜ StepCall (commanded bench (now (line .entry))) (now (output .entry)) r (now (output .exit)) ⌝ }
 {
     if begins(b"pass ", line) {
-        return pass(bench, rest(line, 5), output);
+        return acts::pass(bench, rest(line, 5), output);
     }
     if begins(b"lose ", line) {
         return lose_line(bench, rest(line, 5), output);
@@ -355,7 +136,7 @@ fn command(bench: Bench, line: &[u8], output: &mut [u8]) -> Stepped
     if begins(b"noise ", line) {
         return noise_line(bench, rest(line, 6), output);
     }
-    nothing(bench, columns::COMMAND, output)
+    acts::nothing(bench, columns::COMMAND, output)
 }
 
 // Does what a line asks for, and answers it.
@@ -364,16 +145,16 @@ pub(crate) fn obey(bench: Bench, line: &[u8], output: &mut [u8]) -> Stepped
     ensures { λ r. ⌜ StepCall (obeyed bench (now (line .entry))) (now (output .entry)) r (now (output .exit)) ⌝ }
 {
     if lines::LONGEST < line.len() {
-        return nothing(bench, columns::LONG, output);
+        return acts::nothing(bench, columns::LONG, output);
     }
     if line.len() == 0 {
-        return nothing(bench, columns::EMPTY, output);
+        return acts::nothing(bench, columns::EMPTY, output);
     }
     if !columns::all_printable(line) {
-        return nothing(bench, columns::OCTET, output);
+        return acts::nothing(bench, columns::OCTET, output);
     }
     if begins(b"#", line) {
-        return remark(bench, line, output);
+        return acts::remark(bench, line, output);
     }
     command(bench, line, output)
 }

@@ -1,6 +1,5 @@
 -- `bench::columns::add_column` meets its contract: the text is put over an empty column.
 -- Assumes nothing.
-use denote.Ref.{now}
 use native.Mathlib.Omega.{arith}
 use Rattle.lines.proofs.Answered.{added-put}
 use Rattle.bench.proofs.Texts.{column-put}

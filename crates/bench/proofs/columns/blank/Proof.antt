@@ -3,7 +3,6 @@
 use denote.Ref.{now}
 use Rattle.lines.proofs.Answered.{added-put}
 use mathlib.Core.Path.{refl}
-use native.Mathlib.Omega.{arith}
 use borrow.Author.Needs.{needs}
 use Rattle.bench.proofs.columns.blank.Statement.{statement}
 use Rattle.bench.proofs.columns.blank.Tie as tie

@@ -6,7 +6,7 @@ use lib.ListN.{length, drop}
 use mathlib.Core.Path.{_≡_, refl, sym, _∙_}
 use native.Mathlib.Omega.{arith}
 use Rattle.bench.specs.Script.{begins}
-use Rattle.bench.proofs.Steps.{begins-short, begins-fails, begins-passes, begins-end}
+use Rattle.bench.proofs.Lines.{begins-short, begins-fails, begins-passes, begins-end}
 use borrow.Author.Needs.{needs}
 use Rattle.bench.proofs.script.begins.Statement.{statement}
 use Rattle.bench.proofs.script.begins.Tie as tie

@@ -6,7 +6,8 @@ use lib.ListN.{length, length-drop}
 use mathlib.Core.Path.{ap}
 use native.Mathlib.Omega.{arith}
 use Rattle.bench.specs.Script.{passWord, loseWord, keepWord, giveWord, noiseWord}
-use Rattle.bench.proofs.Steps.{stepped-as, is-pass, is-lose, is-keep, is-give, is-noise, is-none}
+use Rattle.bench.proofs.Lines.{is-pass, is-lose, is-keep, is-give, is-noise, is-none}
+use Rattle.bench.proofs.Steps.{stepped-as}
 use borrow.Author.Needs.{needs}
 use Rattle.bench.proofs.script.command.Statement.{statement}
 use Rattle.bench.proofs.script.command.Tie as tie

@@ -2,7 +2,7 @@
 -- Assumes nothing.
 use denote.Ref.{now}
 use native.Mathlib.Omega.{arith}
-use Rattle.bench.proofs.Steps.{count-long, count-below, count-read}
+use Rattle.bench.proofs.Lines.{count-long, count-below, count-read}
 use borrow.Author.Needs.{needs}
 use Rattle.bench.proofs.script.count_of.Statement.{statement}
 use Rattle.bench.proofs.script.count_of.Tie as tie

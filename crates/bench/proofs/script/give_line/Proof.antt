@@ -1,7 +1,8 @@
 -- `bench::script::give_line` meets its contract: the tests of the length and of the place pick the step.
 -- Assumes nothing.
 use denote.Ref.{now}
-use Rattle.bench.proofs.Steps.{stepped-as, give-nowhere, give-there, give-other}
+use Rattle.bench.proofs.Lines.{give-nowhere, give-there, give-other}
+use Rattle.bench.proofs.Steps.{stepped-as}
 use borrow.Author.Needs.{needs}
 use Rattle.bench.proofs.script.give_line.Statement.{statement}
 use Rattle.bench.proofs.script.give_line.Tie as tie

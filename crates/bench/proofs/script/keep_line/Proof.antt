@@ -5,7 +5,8 @@ use denote.Ref.{now}
 use lib.ListN.{length, drop, length-drop}
 use lib.Seq.{take-all}
 use native.Mathlib.Omega.{arith}
-use Rattle.bench.proofs.Steps.{stepped-as, keep-short, keep-nowhere, keep-there, keep-unspaced}
+use Rattle.bench.proofs.Lines.{keep-short, keep-nowhere, keep-there, keep-unspaced}
+use Rattle.bench.proofs.Steps.{stepped-as}
 use borrow.Author.Needs.{needs}
 use Rattle.bench.proofs.script.keep_line.Statement.{statement}
 use Rattle.bench.proofs.script.keep_line.Tie as tie

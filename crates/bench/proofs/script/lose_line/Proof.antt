@@ -1,8 +1,8 @@
 -- `bench::script::lose_line` meets its contract: the test of the count picks the step.
 -- Assumes nothing.
 use denote.Ref.{now}
-use native.Mathlib.Omega.{arith}
-use Rattle.bench.proofs.Steps.{stepped-as, lose-none, lose-some}
+use Rattle.bench.proofs.Lines.{lose-none, lose-some}
+use Rattle.bench.proofs.Steps.{stepped-as}
 use borrow.Author.Needs.{needs}
 use Rattle.bench.proofs.script.lose_line.Statement.{statement}
 use Rattle.bench.proofs.script.lose_line.Tie as tie

@@ -4,7 +4,8 @@ use denote.Ref.{now}
 use lib.Seq.{length-take-le}
 use mathlib.Core.Path.{refl, sym}
 use Rattle.lines.proofs.Within.{put-within}
-use Rattle.bench.proofs.Steps.{stepped-as, noise-none, noise-some}
+use Rattle.bench.proofs.Lines.{noise-none, noise-some}
+use Rattle.bench.proofs.Steps.{stepped-as}
 use borrow.Author.Needs.{needs}
 use Rattle.bench.proofs.script.noise_line.Statement.{statement}
 use Rattle.bench.proofs.script.noise_line.Tie as tie

@@ -4,7 +4,8 @@ use borrow.Author.Tests.{not-true, not-false}
 use denote.Ref.{now}
 use mathlib.Core.Path.{sym, _∙_}
 use Rattle.bench.specs.Script.{remarkWord}
-use Rattle.bench.proofs.Steps.{stepped-as, is-long, is-empty, is-octet, is-remark, is-command}
+use Rattle.bench.proofs.Lines.{is-long, is-empty, is-octet, is-remark, is-command}
+use Rattle.bench.proofs.Steps.{stepped-as}
 use borrow.Author.Needs.{needs}
 use Rattle.bench.proofs.script.obey.Statement.{statement}
 use Rattle.bench.proofs.script.obey.Tie as tie

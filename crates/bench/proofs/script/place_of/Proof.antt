@@ -1,7 +1,7 @@
 -- `bench::script::place_of` meets its contract.
 -- Assumes nothing.
 use native.Mathlib.Omega.{arith}
-use Rattle.bench.proofs.Steps.{place-digit, place-below, place-above}
+use Rattle.bench.proofs.Lines.{place-digit, place-below, place-above}
 use borrow.Author.Needs.{needs}
 use Rattle.bench.proofs.script.place_of.Statement.{statement}
 use Rattle.bench.proofs.script.place_of.Tie as tie

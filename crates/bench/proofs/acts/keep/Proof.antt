@@ -1,4 +1,4 @@
--- `bench::script::keep` meets its contract: the frame is sealed into its place of the shelf.
+-- `bench::acts::keep` meets its contract: the frame is sealed into its place of the shelf.
 -- Assumes nothing.
 use denote.Ref.{now}
 use lib.ListN.{length}
@@ -8,8 +8,8 @@ use Rattle.bench.specs.Columns.{keptWord}
 use Rattle.bench.proofs.Ends.{sealed-known, sealed-fits}
 use Rattle.bench.proofs.Steps.{line-put, shelvedAt}
 use borrow.Author.Needs.{needs}
-use Rattle.bench.proofs.script.keep.Statement.{statement}
-use Rattle.bench.proofs.script.keep.Tie as tie
+use Rattle.bench.proofs.acts.keep.Statement.{statement}
+use Rattle.bench.proofs.acts.keep.Tie as tie
 
 -- the shelf has ten places of 46 octets
 places : (c : tie.After-frames2) → length (c .before .before .before .before .before .before .args .bench .shelf .frames) ≡ 460

@@ -1,12 +1,12 @@
--- `bench::script::give` meets its contract: the frame kept at the place is the one handed.
+-- `bench::acts::give` meets its contract: the frame kept at the place is the one handed.
 -- Assumes nothing.
 use native.Mathlib.Omega.{arith}
 use Rattle.bench.specs.Columns.{gaveWord}
 use Rattle.bench.specs.Ends.{frameKept}
 use Rattle.bench.proofs.Steps.{line-put, gave}
 use borrow.Author.Needs.{needs}
-use Rattle.bench.proofs.script.give.Statement.{statement}
-use Rattle.bench.proofs.script.give.Tie as tie
+use Rattle.bench.proofs.acts.give.Statement.{statement}
+use Rattle.bench.proofs.acts.give.Tie as tie
 
 array-read-size : tie.Need-array-read-size
 array-read-size c = search needs

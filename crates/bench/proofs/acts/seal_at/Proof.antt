@@ -1,10 +1,10 @@
--- `bench::script::seal_at` meets its contract: sealing into a part of 46 octets.
+-- `bench::acts::seal_at` meets its contract: sealing into a part of 46 octets.
 -- Assumes nothing.
 use denote.Ref.{now}
 use Rattle.bench.proofs.Ends.{seal-part}
 use borrow.Author.Needs.{needs}
-use Rattle.bench.proofs.script.seal_at.Statement.{statement}
-use Rattle.bench.proofs.script.seal_at.Tie as tie
+use Rattle.bench.proofs.acts.seal_at.Statement.{statement}
+use Rattle.bench.proofs.acts.seal_at.Tie as tie
 
 add-end : tie.Need-add-end
 add-end c = search needs

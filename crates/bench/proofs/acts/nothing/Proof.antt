@@ -1,12 +1,12 @@
--- `bench::script::nothing` meets its contract: a question mark, the word, and the cell's columns.
+-- `bench::acts::nothing` meets its contract: a question mark, the word, and the cell's columns.
 -- Assumes nothing.
 use mathlib.Core.Path.{refl}
 use native.Mathlib.Omega.{arith}
 use Rattle.bench.specs.Script.{nothing}
 use Rattle.bench.proofs.Steps.{line-put}
 use borrow.Author.Needs.{needs}
-use Rattle.bench.proofs.script.nothing.Statement.{statement}
-use Rattle.bench.proofs.script.nothing.Tie as tie
+use Rattle.bench.proofs.acts.nothing.Statement.{statement}
+use Rattle.bench.proofs.acts.nothing.Tie as tie
 
 add-word-requires : tie.Need-add-word-requires
 add-word-requires c κs = search needs

@@ -1,4 +1,4 @@
--- `bench::script::pass` meets its contract: the frame sealed is the one handed.
+-- `bench::acts::pass` meets its contract: the frame sealed is the one handed.
 -- Assumes nothing.
 use Prim.Native.Nat.{_≤_}
 use denote.Ref.{now}
@@ -9,8 +9,8 @@ use native.Mathlib.Omega.{arith}
 use Rattle.bench.proofs.Ends.{sealed-known, sealed-fits, sealed-front}
 use Rattle.bench.proofs.Steps.{line-put, passed}
 use borrow.Author.Needs.{needs}
-use Rattle.bench.proofs.script.pass.Statement.{statement}
-use Rattle.bench.proofs.script.pass.Tie as tie
+use Rattle.bench.proofs.acts.pass.Statement.{statement}
+use Rattle.bench.proofs.acts.pass.Tie as tie
 
 -- the frame is within the room that was lent
 within : (c : tie.After-seal-at) → c .seal-at .result .size ≤ length (c .seal-at .last .1 .1 .0)

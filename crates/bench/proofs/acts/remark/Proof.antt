@@ -1,4 +1,4 @@
--- `bench::script::remark` meets its contract: the line, and a line feed.
+-- `bench::acts::remark` meets its contract: the line, and a line feed.
 -- Assumes nothing.
 use denote.Ref.{now}
 use mathlib.Core.Path.{refl}
@@ -7,8 +7,8 @@ use Rattle.lines.specs.Text.{Answered}
 use Rattle.lines.proofs.Answered.{answered-put, answered-octet}
 use Rattle.bench.specs.Script.{remarking}
 use borrow.Author.Needs.{needs}
-use Rattle.bench.proofs.script.remark.Statement.{statement}
-use Rattle.bench.proofs.script.remark.Tie as tie
+use Rattle.bench.proofs.acts.remark.Statement.{statement}
+use Rattle.bench.proofs.acts.remark.Tie as tie
 
 put : (c : tie.After-put-text) → Answered (now (c .before .before .before .before .args .line)) (now (c .before .before .before .before .args .output)) (c .put-text .result .count) (c .put-text .last .1 .0)
 put c = answered-put (c .put-text .ensures) (omega (arith, c .before .before .before .before .pre .0, c .before .before .before .before .pre .1)) refl

@@ -1,4 +1,4 @@
--- `bench::script::hand` meets its contract: what the link answers is shown.
+-- `bench::acts::hand` meets its contract: what the link answers is shown.
 -- Assumes nothing.
 use Prim.Native.Nat.{_≤_}
 use denote.Ref.{now}
@@ -6,12 +6,12 @@ use lib.ListN.{length, take}
 use lib.Seq.{length-take-le}
 use mathlib.Core.Path.{_≡_, sym}
 use native.Mathlib.Omega.{arith}
-use Rattle.bench.specs.Ends.{frameRoom, opened, openedText}
+use Rattle.bench.specs.Ends.{frameRoom, opened}
 use Rattle.bench.proofs.Ends.{open-answers, open-text, opened-known, opened-fits}
 use Rattle.bench.proofs.Steps.{handed}
 use borrow.Author.Needs.{needs}
-use Rattle.bench.proofs.script.hand.Statement.{statement}
-use Rattle.bench.proofs.script.hand.Tie as tie
+use Rattle.bench.proofs.acts.hand.Statement.{statement}
+use Rattle.bench.proofs.acts.hand.Tie as tie
 
 answered : (c : tie.After-open) → c .«open» .result ≡ opened (c .before .before .before .before .args .cell) (now (c .before .before .before .before .args .octets))
 unfolding frameRoom

@@ -1,11 +1,11 @@
--- `bench::script::noise` meets its contract: the octets are the ones handed.
+-- `bench::acts::noise` meets its contract: the octets are the ones handed.
 -- Assumes nothing.
 use denote.Ref.{now}
 use native.Mathlib.Omega.{arith}
 use Rattle.bench.proofs.Steps.{line-put, noised}
 use borrow.Author.Needs.{needs}
-use Rattle.bench.proofs.script.noise.Statement.{statement}
-use Rattle.bench.proofs.script.noise.Tie as tie
+use Rattle.bench.proofs.acts.noise.Statement.{statement}
+use Rattle.bench.proofs.acts.noise.Tie as tie
 
 add-word-requires : tie.Need-add-word-requires
 add-word-requires c κs = search needs

@@ -1,9 +1,9 @@
--- `bench::script::hand_nothing` meets its contract: the columns of the cell without an answer.
+-- `bench::acts::hand_nothing` meets its contract: the columns of the cell without an answer.
 -- Assumes nothing.
 use Rattle.bench.specs.Script.{silentColumns}
 use borrow.Author.Needs.{needs}
-use Rattle.bench.proofs.script.hand_nothing.Statement.{statement}
-use Rattle.bench.proofs.script.hand_nothing.Tie as tie
+use Rattle.bench.proofs.acts.hand_nothing.Statement.{statement}
+use Rattle.bench.proofs.acts.hand_nothing.Tie as tie
 
 slice-aggregate-add-cell : tie.Need-slice-aggregate-add-cell
 slice-aggregate-add-cell c = search needs

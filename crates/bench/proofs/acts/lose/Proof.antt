@@ -1,12 +1,12 @@
--- `bench::script::lose` meets its contract: the last of the frames is sealed after the others.
+-- `bench::acts::lose` meets its contract: the last of the frames is sealed after the others.
 -- Assumes nothing.
 use native.Mathlib.Omega.{arith}
 use Rattle.bench.specs.Columns.{lostWord}
 use Rattle.bench.proofs.Ends.{sealed-known}
 use Rattle.bench.proofs.Steps.{line-put, lost}
 use borrow.Author.Needs.{needs}
-use Rattle.bench.proofs.script.lose.Statement.{statement}
-use Rattle.bench.proofs.script.lose.Tie as tie
+use Rattle.bench.proofs.acts.lose.Statement.{statement}
+use Rattle.bench.proofs.acts.lose.Tie as tie
 
 sub-seal-times : tie.Need-sub-seal-times
 sub-seal-times c = search needs

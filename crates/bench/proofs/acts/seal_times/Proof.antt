@@ -1,4 +1,4 @@
--- `bench::script::seal_times` meets its contract. The loop's invariant: the phone so far is the phone after i frames. The measure is how many are left.
+-- `bench::acts::seal_times` meets its contract. The loop's invariant: the phone so far is the phone after i frames. The measure is how many are left.
 -- Assumes nothing.
 use Prim.Native.Nat.{ℕ, _-_, _≤_}
 use mathlib.Core.Path.{_≡_, ap, _∙_}
@@ -8,8 +8,8 @@ use Rattle.link.specs.declared.Sender.{Sender}
 use Rattle.bench.specs.Ends.{sealed, lostText, phoneAfter}
 use Rattle.bench.proofs.Ends.{phone-next, phone-none}
 use borrow.Author.Needs.{needs}
-use Rattle.bench.proofs.script.seal_times.Statement.{statement}
-use Rattle.bench.proofs.script.seal_times.Tie as tie
+use Rattle.bench.proofs.acts.seal_times.Statement.{statement}
+use Rattle.bench.proofs.acts.seal_times.Tie as tie
 
 abbrev Inv-loop : tie.InvT-loop
 Inv-loop times so-far₀ i₀ so-far i = (i ≤ times) × (so-far ≡ phoneAfter i so-far₀)

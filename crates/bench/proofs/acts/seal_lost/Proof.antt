@@ -1,9 +1,9 @@
--- `bench::script::seal_lost` meets its contract.
+-- `bench::acts::seal_lost` meets its contract.
 -- Assumes nothing.
 use Rattle.bench.specs.Ends.{lostText}
 use borrow.Author.Needs.{needs}
-use Rattle.bench.proofs.script.seal_lost.Statement.{statement}
-use Rattle.bench.proofs.script.seal_lost.Tie as tie
+use Rattle.bench.proofs.acts.seal_lost.Statement.{statement}
+use Rattle.bench.proofs.acts.seal_lost.Tie as tie
 
 slice-aggregate-seal-at : tie.Need-slice-aggregate-seal-at
 slice-aggregate-seal-at c = search needs
