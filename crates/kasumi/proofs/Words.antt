@@ -3,7 +3,7 @@
 use Prim.Native.Nat.{ℕ, _+_, _-_, _*_, _/_, _%_, _^_, _<_, _≤_}
 use native.Mathlib.Nat.{mul-mod-left, add-zero, add-comm}
 use native.Mathlib.Omega.{arith}
-use mathlib.Core.Path.{_≡_, _∙_, sym, ap, subst}
+use mathlib.Core.Path.{_≡_, sym, subst}
 use lib.Bits.{bitOr, or-shifted}
 use lib.Pow.{mod-pow-add, shl-shr, shr-lt}
 use Rattle.kasumi.specs.Kasumi.{rot}
