@@ -24,20 +24,15 @@ use Rattle.link.specs.Link.{endOrder}
 use Rattle.link.specs.Seal.{OpenSenderCall, sealOrder, SealCall}
 use Rattle.link.specs.Open.{OpenReceiverCall, openOrder, OpenCall}
 use Rattle.lines.specs.declared.Heard.{Heard}
-use Rattle.lines.specs.declared.Put.{Put}
-use Rattle.lines.specs.Digits.{numberOrder as Digits·numberOrder, NumberCall as Digits·NumberCall}
 use Rattle.lines.specs.Text.{roomOrder, hexOrder, hexOctets, hexText, decimalText}
 use Rattle.lines.specs.Hearing.{silence, tooLong, kept}
 use Rattle.requests.specs.declared.Told.{Told as Requests·Told}
-use Rattle.requests.specs.Answer.{largestAnswer}
-use Rattle.requests.specs.Stream.{HearCall as Requests·HearCall, FinishCall as Requests·FinishCall}
-use Rattle.walks.specs.declared.Walk.{Walk}
+use Rattle.requests.specs.Stream.{streamRules, standing as Requests·standing}
 use Rattle.walks.specs.declared.Told.{Told as Walks·Told}
-use Rattle.walks.specs.Walk.{room, header, start as Walks·start, HearCall as Walks·HearCall, FinishCall as Walks·FinishCall}
-use Rattle.bench.specs.declared.Play.{Play}
+use Rattle.walks.specs.Walk.{room, walkRules, standing as Walks·standing, header, start as Walks·start}
 use Rattle.bench.specs.declared.Told.{Told as Bench·Told}
-use Rattle.bench.specs.Bench.{room as Bench·room, heading, start as Bench·start, HearCall as Bench·HearCall, FinishCall as Bench·FinishCall}
-use Rattle.promises.specs.PublicCall.{PublicCall, function, puts, putsTwo, putsText}
+use Rattle.bench.specs.Bench.{room as Bench·room, benchRules, standing as Bench·standing, heading, start as Bench·start}
+use Rattle.promises.specs.PublicCall.{PublicCall, function, puts, putsTwo, putsText, reads, hears, finishes}
 
 -- octets::size
 abbrev pub sizeCall : PublicCall
@@ -199,31 +194,11 @@ openCall = record {
 
 -- lines::decimal
 abbrev pub decimalCall : PublicCall
-decimalCall = record {
-  Given = List ℕ;
-  Back = record { refusal : ℕ; value : ℕ };
-  says = λ given back. Digits·NumberCall 10 10 given (back .refusal) (back .value);
-  order = Digits·numberOrder 10 10;
-  refusal = λ back. back .refusal;
-  numbers = λ back. back .value ∷ [];
-  Lent = Unit {0};
-  before = λ given. tt;
-  after = λ back. tt;
-}
+decimalCall = reads 10 10
 
 -- lines::hexadecimal
 abbrev pub hexadecimalCall : PublicCall
-hexadecimalCall = record {
-  Given = List ℕ;
-  Back = record { refusal : ℕ; value : ℕ };
-  says = λ given back. Digits·NumberCall 16 16 given (back .refusal) (back .value);
-  order = Digits·numberOrder 16 16;
-  refusal = λ back. back .refusal;
-  numbers = λ back. back .value ∷ [];
-  Lent = Unit {0};
-  before = λ given. tt;
-  after = λ back. tt;
-}
+hexadecimalCall = reads 16 16
 
 -- lines::octets_of_hex
 abbrev pub octetsOfHexCall : PublicCall
@@ -259,31 +234,11 @@ requestsStartCall = function {Given = Unit {0}} (λ given. silence)
 
 -- requests::hear
 abbrev pub requestsHearCall : PublicCall
-requestsHearCall = record {
-  Given = record { heard : Heard; octet : ℕ; output : List ℕ };
-  Back = record { told : Requests·Told; output : List ℕ };
-  says = λ given back. Requests·HearCall (given .heard) (given .octet) (given .output) (back .told) (back .output);
-  order = λ given. roomOrder largestAnswer (given .output);
-  refusal = λ back. back .told .refusal;
-  numbers = λ back. back .told .written ∷ [];
-  Lent = Heard × List ℕ;
-  before = λ given. (given .heard, given .output);
-  after = λ back. (back .told .heard, back .output);
-}
+requestsHearCall = hears streamRules Requests·standing (λ (told : Requests·Told). told .refusal) (λ told. told .heard) (λ told. told .written)
 
 -- requests::finish
 abbrev pub requestsFinishCall : PublicCall
-requestsFinishCall = record {
-  Given = record { heard : Heard; output : List ℕ };
-  Back = record { put : Put; output : List ℕ };
-  says = λ given back. Requests·FinishCall (given .heard) (given .output) (back .put) (back .output);
-  order = λ given. roomOrder largestAnswer (given .output);
-  refusal = λ back. back .put .refusal;
-  numbers = λ back. back .put .count ∷ [];
-  Lent = List ℕ;
-  before = λ given. given .output;
-  after = λ back. back .output;
-}
+requestsFinishCall = finishes streamRules Requests·standing
 
 -- walks::start
 abbrev pub walksStartCall : PublicCall
@@ -295,31 +250,11 @@ walksHeaderCall = putsText {Given = Unit {0}} (λ given. roomOrder room) (λ giv
 
 -- walks::hear
 abbrev pub walksHearCall : PublicCall
-walksHearCall = record {
-  Given = record { walk : Walk; octet : ℕ; output : List ℕ };
-  Back = record { told : Walks·Told; output : List ℕ };
-  says = λ given back. Walks·HearCall (given .walk) (given .octet) (given .output) (back .told) (back .output);
-  order = λ given. roomOrder room (given .output);
-  refusal = λ back. back .told .refusal;
-  numbers = λ back. back .told .written ∷ [];
-  Lent = Walk × List ℕ;
-  before = λ given. (given .walk, given .output);
-  after = λ back. (back .told .walk, back .output);
-}
+walksHearCall = hears walkRules Walks·standing (λ (told : Walks·Told). told .refusal) (λ told. told .walk) (λ told. told .written)
 
 -- walks::finish
 abbrev pub walksFinishCall : PublicCall
-walksFinishCall = record {
-  Given = record { walk : Walk; output : List ℕ };
-  Back = record { put : Put; output : List ℕ };
-  says = λ given back. Walks·FinishCall (given .walk) (given .output) (back .put) (back .output);
-  order = λ given. roomOrder room (given .output);
-  refusal = λ back. back .put .refusal;
-  numbers = λ back. back .put .count ∷ [];
-  Lent = List ℕ;
-  before = λ given. given .output;
-  after = λ back. back .output;
-}
+walksFinishCall = finishes walkRules Walks·standing
 
 -- bench::start
 abbrev pub benchStartCall : PublicCall
@@ -331,31 +266,11 @@ benchHeaderCall = putsText {Given = Unit {0}} (λ given. roomOrder Bench·room) 
 
 -- bench::hear
 abbrev pub benchHearCall : PublicCall
-benchHearCall = record {
-  Given = record { play : Play; octet : ℕ; output : List ℕ };
-  Back = record { told : Bench·Told; output : List ℕ };
-  says = λ given back. Bench·HearCall (given .play) (given .octet) (given .output) (back .told) (back .output);
-  order = λ given. roomOrder Bench·room (given .output);
-  refusal = λ back. back .told .refusal;
-  numbers = λ back. back .told .written ∷ [];
-  Lent = Play × List ℕ;
-  before = λ given. (given .play, given .output);
-  after = λ back. (back .told .play, back .output);
-}
+benchHearCall = hears benchRules Bench·standing (λ (told : Bench·Told). told .refusal) (λ told. told .play) (λ told. told .written)
 
 -- bench::finish
 abbrev pub benchFinishCall : PublicCall
-benchFinishCall = record {
-  Given = record { play : Play; output : List ℕ };
-  Back = record { put : Put; output : List ℕ };
-  says = λ given back. Bench·FinishCall (given .play) (given .output) (back .put) (back .output);
-  order = λ given. roomOrder Bench·room (given .output);
-  refusal = λ back. back .put .refusal;
-  numbers = λ back. back .put .count ∷ [];
-  Lent = List ℕ;
-  before = λ given. given .output;
-  after = λ back. back .output;
-}
+benchFinishCall = finishes benchRules Bench·standing
 
 abbrev pub publicCalls : List PublicCall
 publicCalls =

@@ -3,7 +3,9 @@ use Prim.Native.Nat.{ℕ, _≤_}
 use mathlib.Core.Path.{_≡_}
 use mathlib.Core.List.{List, [], _∷_}
 use Rattle.refusals.specs.Refusal.{Row, ThenAndOnlyThen}
-use Rattle.lines.specs.Text.{PutCall}
+use Rattle.lines.specs.Digits.{numberOrder, NumberCall}
+use Rattle.lines.specs.Text.{roomOrder, PutCall}
+use Rattle.lines.specs.Hearing.{Rules, Standing, HearCall, FinishCall}
 
 -- a public call: all that goes in and all that comes back, lent octets and states among them; what the contract says of the two; the refusals in
 -- their order, and the refusal that came back; every other number that comes back, but for the candidate where it is given with a refusal; and what
@@ -56,6 +58,51 @@ putsText {Given} order text = record {
   order = λ given. order (given .inputs) (given .output);
   refusal = λ back. back .refusal;
   numbers = λ back. back .count ∷ [];
+  Lent = List ℕ;
+  before = λ given. given .output;
+  after = λ back. back .output;
+}
+
+-- a call that reads a number of at most so many digits of a base
+abbrev pub reads : ℕ → ℕ → PublicCall
+reads base most = record {
+  Given = List ℕ;
+  Back = record { refusal : ℕ; value : ℕ };
+  says = λ given back. NumberCall base most given (back .refusal) (back .value);
+  order = numberOrder base most;
+  refusal = λ back. back .refusal;
+  numbers = λ back. back .value ∷ [];
+  Lent = Unit {0};
+  before = λ given. tt;
+  after = λ back. tt;
+}
+
+-- a call that hears an octet by the rules of a program, from a state on, which stands somewhere between two octets; what is told has a refusal, the
+-- state then, and how many octets of answer were written
+abbrev pub hears : {S State Told : Type 0} → Rules S → (State → Standing S) → (Told → ℕ) → (Told → State) → (Told → ℕ) → PublicCall
+hears {S} {State} {Told} rules standing refusal later written = record {
+  Given = record { state : State; octet : ℕ; output : List ℕ };
+  Back = record { told : Told; output : List ℕ };
+  says = λ given back.
+      HearCall rules (standing (given .state)) (given .octet) (given .output)
+      (refusal (back .told)) (standing (later (back .told))) (written (back .told)) (back .output);
+  order = λ given. roomOrder (rules .room) (given .output);
+  refusal = λ back. refusal (back .told);
+  numbers = λ back. written (back .told) ∷ [];
+  Lent = State × List ℕ;
+  before = λ given. (given .state, given .output);
+  after = λ back. (later (back .told), back .output);
+}
+
+-- a call that tells such a program that its input ends
+abbrev pub finishes : {S State : Type 0} → Rules S → (State → Standing S) → PublicCall
+finishes {S} {State} rules standing = record {
+  Given = record { state : State; output : List ℕ };
+  Back = record { refusal : ℕ; written : ℕ; output : List ℕ };
+  says = λ given back. FinishCall rules (standing (given .state)) (given .output) (back .refusal) (back .written) (back .output);
+  order = λ given. roomOrder (rules .room) (given .output);
+  refusal = λ back. back .refusal;
+  numbers = λ back. back .written ∷ [];
   Lent = List ℕ;
   before = λ given. given .output;
   after = λ back. back .output;

@@ -67,13 +67,13 @@ fn requests_start() -> Heard
 }
 
 fn requests_hear(heard: Heard, octet: u8, output: &mut [u8]) -> requests::Told
-    ensures { λ r. ⌜ requestsHearCall .says (record { heard = heard; octet = octet; output = now (output .entry) }) (record { told = r; output = now (output .exit) }) ⌝ }
+    ensures { λ r. ⌜ requestsHearCall .says (record { state = heard; octet = octet; output = now (output .entry) }) (record { told = r; output = now (output .exit) }) ⌝ }
 {
     requests::hear(heard, octet, output)
 }
 
 fn requests_finish(heard: Heard, output: &mut [u8]) -> Put
-    ensures { λ r. ⌜ requestsFinishCall .says (record { heard = heard; output = now (output .entry) }) (record { put = r; output = now (output .exit) }) ⌝ }
+    ensures { λ r. ⌜ requestsFinishCall .says (record { state = heard; output = now (output .entry) }) (record { refusal = r .refusal; written = r .count; output = now (output .exit) }) ⌝ }
 {
     requests::finish(heard, output)
 }
@@ -91,13 +91,13 @@ fn walks_header(output: &mut [u8]) -> Put
 }
 
 fn walks_hear(walk: Walk, octet: u8, output: &mut [u8]) -> walks::Told
-    ensures { λ r. ⌜ walksHearCall .says (record { walk = walk; octet = octet; output = now (output .entry) }) (record { told = r; output = now (output .exit) }) ⌝ }
+    ensures { λ r. ⌜ walksHearCall .says (record { state = walk; octet = octet; output = now (output .entry) }) (record { told = r; output = now (output .exit) }) ⌝ }
 {
     walks::hear(walk, octet, output)
 }
 
 fn walks_finish(walk: Walk, output: &mut [u8]) -> Put
-    ensures { λ r. ⌜ walksFinishCall .says (record { walk = walk; output = now (output .entry) }) (record { put = r; output = now (output .exit) }) ⌝ }
+    ensures { λ r. ⌜ walksFinishCall .says (record { state = walk; output = now (output .entry) }) (record { refusal = r .refusal; written = r .count; output = now (output .exit) }) ⌝ }
 {
     walks::finish(walk, output)
 }
@@ -115,13 +115,13 @@ fn bench_header(output: &mut [u8]) -> Put
 }
 
 fn bench_hear(play: Play, octet: u8, output: &mut [u8]) -> bench::Told
-    ensures { λ r. ⌜ benchHearCall .says (record { play = play; octet = octet; output = now (output .entry) }) (record { told = r; output = now (output .exit) }) ⌝ }
+    ensures { λ r. ⌜ benchHearCall .says (record { state = play; octet = octet; output = now (output .entry) }) (record { told = r; output = now (output .exit) }) ⌝ }
 {
     bench::hear(play, octet, output)
 }
 
 fn bench_finish(play: Play, output: &mut [u8]) -> Put
-    ensures { λ r. ⌜ benchFinishCall .says (record { play = play; output = now (output .entry) }) (record { put = r; output = now (output .exit) }) ⌝ }
+    ensures { λ r. ⌜ benchFinishCall .says (record { state = play; output = now (output .entry) }) (record { refusal = r .refusal; written = r .count; output = now (output .exit) }) ⌝ }
 {
     bench::finish(play, output)
 }
