@@ -1,5 +1,5 @@
--- The laws of this crate: numbers and their bits, lists by their elements, stored bit strings, and the calls' outcomes.
-pub mod Determined
+-- The laws of this crate: numbers and their bits, lists by their elements, stored bit strings, and the cut.
+pub mod Cutting
 pub mod Listed
 pub mod Number
 pub mod Stored

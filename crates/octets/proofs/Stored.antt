@@ -11,8 +11,7 @@ use borrow.Author.Tests.{lt-ltb, le-ltb}
 use lib.Arith.{digits-div, digits-mod}
 use lib.Dec.{ltb, lit<}
 use lib.ListN.{length, getD, set, drop, List·getD-append}
-use Rattle.refusals.specs.Refusal.{lent}
-use Rattle.refusals.proofs.Laws.{lent-done}
+use Rattle.refusals.specs.Call.{front}
 use Rattle.octets.specs.Bits.{bitAt, bitOf, part, number, octet, listed, size, stored}
 use Rattle.octets.proofs.Listed.{length-listed, getD-listed, listed-ext, listed-last}
 use Rattle.octets.proofs.Number.{bitAt-lt, number-ext, number-zeros, number-whole, bit-number}
@@ -92,9 +91,10 @@ pub getD-stored : (f : ℕ → ℕ) (s n k : ℕ) → k < size n → getD (store
 unfolding stored
 getD-stored f s n k below = getD-listed (octet (part f s n)) (size n) k 0 below
 
--- what a lent buffer holds after a success
-pub lent-stored : (f : ℕ → ℕ) (s n : ℕ) (before : List ℕ) → lent 0 (stored f s n) before ≡ stored f s n ++ drop (size n) before
-lent-stored f s n before = lent-done (stored f s n) before ∙ ap (λ (k : ℕ). stored f s n ++ drop k before) (length-stored f s n)
+-- a lent output with a stored bit string at its front
+pub front-stored : (f : ℕ → ℕ) (s n : ℕ) (before : List ℕ) → front (stored f s n) before ≡ stored f s n ++ drop (size n) before
+unfolding front
+front-stored f s n before = ap (λ (k : ℕ). stored f s n ++ drop k before) (length-stored f s n)
 
 -- what is stored goes by the bits alone
 pub stored-ext : (f g : ℕ → ℕ) (s t n : ℕ) → ((i : ℕ) → i < n → f (s + i) ≡ g (t + i)) → stored f s n ≡ stored g t n

@@ -1,9 +1,11 @@
 // Bit strings in octets: the first bit is the highest of the first octet, and spare bits of the last octet are zero.
 ghost use mathlib.Core.Path.{_≡_};
+ghost use mathlib.Core.List.{[]};
 ghost use Prim.Native.Nat.{ℕ, _+_, _^_, _<_};
 ghost use lib.ListN.{getD};
 ghost use Rattle.octets.specs.Bits.{bitOf, number, firstBits, size as Bits·size};
-ghost use Rattle.octets.specs.Cut.{CutCall};
+ghost use Rattle.refusals.specs.Call.{Answered};
+ghost use Rattle.octets.specs.Cut.{cutCall};
 
 // How many octets hold `count` bits.
 pub fn size(count: u32) -> usize
@@ -46,7 +48,7 @@ fn eight_bits(source: &[u8], at: usize) -> u8
 
 // Cuts `count` bits out of the source, from bit `start` on, into the output.
 pub fn cut(source: &[u8], start: u32, count: u32, output: &mut [u8]) -> u8
-    ensures { λ r. ⌜ CutCall (now (source .entry)) start count (now (output .entry)) r (now (output .exit)) ⌝ }
+    ensures { λ r. ⌜ Answered (cutCall (now (source .entry)) start count (now (output .entry))) r [] (now (output .exit)) ⌝ }
 {
     let size = size(count);
     if output.len() < size {

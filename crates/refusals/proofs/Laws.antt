@@ -9,7 +9,8 @@ use borrow.Author.Tests.{eq-eqb, ne-eqb}
 use lib.Dec.{T, eqb}
 use lib.ListN.{length, drop}
 use Rattle.refusals.proofs.Tests.{and-left, and-right, by-test}
-use Rattle.refusals.specs.Refusal.{Row, first, lent, rowAt, FirstAt, absent, distinct, ThenAndOnlyThen}
+use Rattle.refusals.specs.Refusal.{Row, first, lent, rowAt, FirstAt, ThenAndOnlyThen}
+use Rattle.refusals.proofs.Orders.{absent, distinct}
 
 -- a test that failed, as two numbers that are not the same
 apart : (m n : ℕ) → T (not (eqb m n)) → m ≡ n → ⊥
@@ -26,7 +27,7 @@ first-passed row rest h = rw h
 
 -- the first that holds is never a number that no row has
 not-named : (n : ℕ) (rows : List Row) → (n ≡ 0 → ⊥) → T (absent n rows) → first rows ≡ n → ⊥
-unfolding first absent
+unfolding first
 not-named n [] above gone e = above (sym e)
 not-named n (row ∷ rest) above gone e =
     by-test (row .holds) ⊥
@@ -36,20 +37,17 @@ not-named n (row ∷ rest) above gone e =
 -- a row's number is not 0, and no row after it has that number
 module _ (row : Row) (rest : List Row) (d : T (distinct (row ∷ rest))) where
   not-zero : row .number ≡ 0 → ⊥
-  unfolding distinct
   not-zero = apart (row .number) 0 (and-left (not (eqb (row .number) 0)) (absent (row .number) rest) (and-left (not (eqb (row .number) 0) && absent (row .number) rest) (distinct rest) d))
 
   only-here : T (absent (row .number) rest)
-  unfolding distinct
   only-here = and-right (not (eqb (row .number) 0)) (absent (row .number) rest) (and-left (not (eqb (row .number) 0) && absent (row .number) rest) (distinct rest) d)
 
   rest-distinct : T (distinct rest)
-  unfolding distinct
   rest-distinct = and-right (not (eqb (row .number) 0) && absent (row .number) rest) (distinct rest) d
 
 -- a number that no row has is not row k's
 not-at : (n : ℕ) (rows : List Row) → T (absent n rows) → (k : ℕ) → k < length rows → n ≡ rowAt rows k .number → ⊥
-unfolding absent rowAt
+unfolding rowAt
 not-at n [] gone k l e = not-suc-le-zero l
 not-at n (row ∷ rest) gone zero l e = apart n (row .number) (and-left (not (eqb n (row .number))) (absent n rest) gone) e
 not-at n (row ∷ rest) gone (suc k) l e =
@@ -113,7 +111,7 @@ unset false h = refl
 
 -- of two orders the second decides where nothing of the first holds
 pub first-append : (rows more : List Row) → T (distinct rows) → first (rows ++ more) ≡ cond (eqb (first rows) 0) (first more) (first rows)
-unfolding first distinct absent
+unfolding first
 first-append [] more d = refl
 first-append (row ∷ rest) more d =
     let head : T (not (eqb (row .number) 0) && absent (row .number) rest) = and-left (not (eqb (row .number) 0) && absent (row .number) rest) (distinct rest) d in

@@ -1,3 +1,5 @@
--- The laws of a refusal order, and of tests that the checker computes.
+-- The laws of a refusal order, of a public call, and of tests that the checker computes.
+pub mod Calls
 pub mod Laws
+pub mod Orders
 pub mod Tests

@@ -3,10 +3,14 @@
 use Prim.Native.Nat.{ℕ, _<_}
 use mathlib.Core.Path.{_≡_}
 use mathlib.Core.Logic.{_↔_}
-use mathlib.Core.Bool.{Bool, true, false, cond, not, _&&_}
+use mathlib.Core.Bool.{Bool, true, false, cond}
 use mathlib.Core.List.{List, [], _∷_, _++_}
 use lib.Dec.{eqb}
 use lib.ListN.{length, getD, drop}
+
+-- the last number of the table; the first is 1
+abbrev pub lastRefusal : ℕ
+lastRefusal = 12
 
 -- a row of a call's order: a refusal's number, and whether its cause holds
 pub record Row : Type 0 where
@@ -30,17 +34,6 @@ rowAt rows k = getD rows k (record { number = 0; holds = false })
 pub record FirstAt (rows : List Row) (k : ℕ) : Type 0 where
   pub here : rowAt rows k .holds ≡ true
   pub none-before : (j : ℕ) → j < k → rowAt rows j .holds ≡ false
-
--- n is none of the rows' numbers
-unfoldable pub absent : ℕ → List Row → Bool
-absent n [] = true
-absent n (row ∷ rest) = not (eqb n (row .number)) && absent n rest
-
--- no two rows have the same number, and none has 0
-unfoldable pub distinct : List Row → Bool
-unfolding absent
-distinct [] = true
-distinct (row ∷ rest) = (not (eqb (row .number) 0) && absent (row .number) rest) && distinct rest
 
 -- each refusal is given then and only then: the answer is row k's number exactly where row k is the first that holds, and 0 exactly where none holds
 pub record ThenAndOnlyThen (rows : List Row) (answer : ℕ) : Type 0 where

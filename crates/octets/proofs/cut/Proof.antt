@@ -9,12 +9,12 @@ use native.Mathlib.Omega.{arith}
 use borrow.Author.Tests.{lt-ltb, le-ltb}
 use denote.Ref.{now}
 use lib.ListN.{length, drop, set}
-use Rattle.refusals.specs.Refusal.{first, lent}
+use Rattle.refusals.specs.Refusal.{first}
 use Rattle.octets.specs.Bits.{bitAt, bitOf, part, number, octet, listed, size, stored}
 use Rattle.octets.specs.Cut.{cutOrder}
 use Rattle.octets.proofs.Number.{number-ext}
 use Rattle.octets.proofs.Listed.{length-listed-front, listed-store}
-use Rattle.octets.proofs.Stored.{bitOf-lt, octet-first, lent-stored}
+use Rattle.octets.proofs.Stored.{bitOf-lt, octet-first, front-stored}
 use Rattle.octets.proofs.cut.Statement.{statement}
 use Rattle.octets.proofs.cut.Tie as tie
 
@@ -49,10 +49,10 @@ size-requires : tie.Need-size-requires Inv-loop μ-loop
 size-requires c κs = search needs
 
 returns : tie.Need-returns Inv-loop μ-loop
-unfolding first cutOrder lent
+unfolding first cutOrder
 returns c =
     let given = c .before .before .before .before .args in
-    record { refusal-is = rw (lt-ltb (length (now (given .output))) (size (given .count)) (omega arith)); output-is = refl }
+    record { refusal-is = rw (lt-ltb (length (now (given .output))) (size (given .count)) (omega arith)); numbers-are = refl; lent-is = refl }
 
 loop-holds : tie.Need-loop-holds Inv-loop μ-loop
 unfolding listed
@@ -115,10 +115,11 @@ returns-2 c =
     let given = at-loop .before .before .before .before .before .args in
     record {
       refusal-is = rw (le-ltb (length (now (given .output))) (size (given .count)) (omega arith));
-      output-is =
+      numbers-are = refl;
+      lent-is =
           at-loop .loop .inv .output-is
           ∙ ap (λ (k : ℕ). listed (asked (now (given .source)) (given .start) (given .count)) k ++ drop k (now (given .output))) (omega arith)
-          ∙ sym (lent-stored (bitOf (now (given .source))) (given .start) (given .count) (now (given .output)));
+          ∙ sym (front-stored (bitOf (now (given .source))) (given .start) (given .count) (now (given .output)));
     }
 
 pub cut-spec : {M : Type 1} → statement M
