@@ -3,9 +3,9 @@
 use Prim.Native.Nat.{ℕ, _+_, _*_, _/_, _%_, _^_}
 use mathlib.Core.List.{List, [], _∷_}
 
--- bit i of a number, bit 0 the lowest
-abbrev pub bit : ℕ → ℕ → ℕ
-bit x i = x / 2 ^ i % 2
+-- bit i of a number, bit 0 the lowest, as the equations count
+abbrev pub lowBit : ℕ → ℕ → ℕ
+lowBit x i = x / 2 ^ i % 2
 
 -- the number of the given bits, the lowest first
 abbrev pub weighed : List ℕ → ℕ
@@ -25,7 +25,7 @@ gates7 x0 x1 x2 x3 x4 x5 x6 =
 
 -- the entry of S7 that the equations give
 unfoldable pub s7Gates : ℕ → ℕ
-s7Gates x = weighed (gates7 (bit x 0) (bit x 1) (bit x 2) (bit x 3) (bit x 4) (bit x 5) (bit x 6))
+s7Gates x = weighed (gates7 (lowBit x 0) (lowBit x 1) (lowBit x 2) (lowBit x 3) (lowBit x 4) (lowBit x 5) (lowBit x 6))
 
 -- the gate equations of S9: the output bits y0 to y8 of the input bits x0 to x8
 unfoldable pub gates9 : ℕ → ℕ → ℕ → ℕ → ℕ → ℕ → ℕ → ℕ → ℕ → List ℕ
@@ -42,4 +42,4 @@ gates9 x0 x1 x2 x3 x4 x5 x6 x7 x8 =
 
 -- the entry of S9 that the equations give
 unfoldable pub s9Gates : ℕ → ℕ
-s9Gates x = weighed (gates9 (bit x 0) (bit x 1) (bit x 2) (bit x 3) (bit x 4) (bit x 5) (bit x 6) (bit x 7) (bit x 8))
+s9Gates x = weighed (gates9 (lowBit x 0) (lowBit x 1) (lowBit x 2) (lowBit x 3) (lowBit x 4) (lowBit x 5) (lowBit x 6) (lowBit x 7) (lowBit x 8))

@@ -1,25 +1,23 @@
 -- The block cipher KASUMI of 3GPP TS 35.202, as document 01 has it: a block is one number of 64 bits, a key 16 octets.
 -- Most significant bit and octet first, everywhere. Assumes nothing.
 use Prim.Native.Nat.{ℕ, zero, suc, _+_, _-_, _*_, _/_, _%_, _^_}
-use mathlib.Core.Path.{_≡_}
 use mathlib.Core.Bool.{cond, not}
 use mathlib.Core.List.{List, [], _∷_}
 use lib.Bits.{bitXor, bitAnd, bitOr}
 use lib.Dec.{eqb}
 use lib.ListN.{length, getD}
-use Rattle.refusals.specs.Refusal.{Row, first}
+use Rattle.refusals.specs.Refusal.{Row}
+use Rattle.refusals.specs.Call.{Call, tells}
+use Rattle.octets.specs.Bits.{join}
 use Rattle.kasumi.specs.Tables.{s7, s9}
 use Rattle.kasumi.specs.declared.schedule.Keys.{Keys}
 
--- a number but for its lowest w bits, those w bits, and the number of two such parts
+-- a number but for its lowest w bits, and those w bits
 abbrev pub left : ℕ → ℕ → ℕ
 left w x = x / 2 ^ w
 
 abbrev pub right : ℕ → ℕ → ℕ
 right w x = x % 2 ^ w
-
-abbrev pub join : ℕ → ℕ → ℕ → ℕ
-join w l r = l * 2 ^ w + r
 
 -- a word of 16 bits, rotated to the left by k
 unfoldable pub rot : ℕ → ℕ → ℕ
@@ -103,7 +101,6 @@ kasumi key block = rounds key 8 block
 unfoldable pub kasumiOrder : List ℕ → List Row
 kasumiOrder key = record { number = 1; holds = not (eqb (length key) 16) } ∷ []
 
--- a call of the cipher: the refusal, and the block, which is 0 where the call is refused
-pub record KasumiCall (key : List ℕ) (block refusal result : ℕ) : Type 0 where
-  pub refusal-is : refusal ≡ first (kasumiOrder key)
-  pub result-is : result ≡ cond (eqb refusal 0) (kasumi key block) 0
+-- kasumi::kasumi hands out the ciphered block
+abbrev pub kasumiCall : List ℕ → ℕ → Call (Unit {0})
+kasumiCall key block = tells (kasumiOrder key) (kasumi key block ∷ [])

@@ -3,9 +3,11 @@ mod schedule;
 mod tables;
 
 ghost use mathlib.Core.Path.{_≡_};
+ghost use mathlib.Core.List.{[], _∷_};
 ghost use Prim.Native.Nat.{_<_, _≤_};
 ghost use lib.ListN.{length};
-ghost use Rattle.kasumi.specs.Kasumi.{KasumiCall, fl as Kasumi·fl, fi as Kasumi·fi, foStep, fo as Kasumi·fo};
+ghost use Rattle.refusals.specs.Call.{Answered};
+ghost use Rattle.kasumi.specs.Kasumi.{kasumiCall, fl as Kasumi·fl, fi as Kasumi·fi, foStep, fo as Kasumi·fo};
 ghost use Rattle.kasumi.specs.Kasumi.{f as Kasumi·f, round as Kasumi·round, kasumi as Kasumi·kasumi};
 use schedule::Keys;
 
@@ -92,7 +94,7 @@ fn eight_rounds(key: &[u8], block: u64) -> u64
 
 // KASUMI of a block under a key of 16 octets.
 pub fn kasumi(key: &[u8], block: u64) -> Ciphered
-    ensures { λ r. ⌜ KasumiCall (now (key .entry)) block (r .refusal) (r .block) ⌝ }
+    ensures { λ r. ⌜ Answered (kasumiCall (now (key .entry)) block) (r .refusal) (r .block ∷ []) tt ⌝ }
 {
     if key.len() != 16 {
         return Ciphered {

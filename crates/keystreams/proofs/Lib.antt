@@ -1,4 +1,4 @@
--- The laws of the keystreams: the cutting of the generator's output, the calls' outcomes, and what callers use.
+-- The laws of the keystreams: the cutting of the generator's output, the prepared key, and what callers use.
 pub mod Cutting
-pub mod Determined
+pub mod Keys
 pub mod Laws

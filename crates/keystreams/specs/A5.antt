@@ -1,11 +1,11 @@
 -- A5/4 for GSM and for ECSD (document 004, sections 5 and 6): two blocks of keystream for a COUNT. Assumes nothing.
 use Prim.Native.Nat.{ℕ, _/_}
-use mathlib.Core.Path.{_≡_}
 use mathlib.Core.Bool.{not, _||_}
 use mathlib.Core.List.{List, [], _∷_}
 use lib.Dec.{ltb}
 use lib.ListN.{length}
-use Rattle.refusals.specs.Refusal.{Row, first, lent}
+use Rattle.refusals.specs.Refusal.{Row}
+use Rattle.refusals.specs.Call.{Call, Outputs, putsTwo}
 use Rattle.octets.specs.Bits.{size, stored}
 use Rattle.kgcore.specs.declared.Inputs.{Inputs}
 use Rattle.kgcore.specs.Kgcore.{keyBit}
@@ -35,14 +35,13 @@ unfoldable pub block2 : Kind → List ℕ → ℕ → List ℕ
 block2 kind key count = stored (keyBit (prepared key) (a5Inputs kind count)) (half kind) (half kind)
 
 -- the refusals of a call, in their order; no size is asked for, so there is no 3
-unfoldable pub a5Order : Kind → List ℕ → ℕ → List ℕ → List ℕ → List Row
-a5Order kind key count output1 output2 =
+unfoldable pub a5Order : Kind → List ℕ → ℕ → Outputs → List Row
+a5Order kind key count outputs =
     record { number = 1; holds = not (isKey key) } ∷
     record { number = 2; holds = ltb 4194303 count } ∷
-    record { number = 4; holds = ltb (length output1) (size (half kind)) || ltb (length output2) (size (half kind)) } ∷ []
+    record { number = 4; holds = ltb (length (outputs .one)) (size (half kind)) || ltb (length (outputs .two)) (size (half kind)) } ∷ []
 
--- a call: the refusal, and what the two lent outputs then hold
-pub record A5Call (kind : Kind) (key : List ℕ) (count : ℕ) (before1 before2 : List ℕ) (refusal : ℕ) (after1 after2 : List ℕ) : Type 0 where
-  pub refusal-is : refusal ≡ first (a5Order kind key count before1 before2)
-  pub output1-is : after1 ≡ lent refusal (block1 kind key count) before1
-  pub output2-is : after2 ≡ lent refusal (block2 kind key count) before2
+-- keystreams::gsm and keystreams::ecsd, by their kind: BLOCK1 into the one output, BLOCK2 into the other
+abbrev pub a5Call : Kind → List ℕ → ℕ → Outputs → Call Outputs
+a5Call kind key count outputs =
+    putsTwo (a5Order kind key count outputs) (record { one = block1 kind key count; two = block2 kind key count }) outputs

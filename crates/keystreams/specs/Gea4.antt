@@ -1,11 +1,11 @@
 -- GEA4 for GPRS (document 004, section 7): M octets of keystream for an INPUT and a direction. Assumes nothing.
 use Prim.Native.Nat.{ℕ, _*_}
-use mathlib.Core.Path.{_≡_}
 use mathlib.Core.Bool.{not, _||_}
 use mathlib.Core.List.{List, [], _∷_}
 use lib.Dec.{eqb, ltb}
 use lib.ListN.{length}
-use Rattle.refusals.specs.Refusal.{Row, first, lent}
+use Rattle.refusals.specs.Refusal.{Row}
+use Rattle.refusals.specs.Call.{Call, puts}
 use Rattle.octets.specs.Bits.{stored}
 use Rattle.kgcore.specs.declared.Inputs.{Inputs}
 use Rattle.kgcore.specs.Kgcore.{keyBit}
@@ -27,7 +27,6 @@ gea4Order key direction m output =
     record { number = 3; holds = eqb m 0 || ltb 65536 m } ∷
     record { number = 4; holds = ltb (length output) m } ∷ []
 
--- a call: the refusal, and what the lent output then holds
-pub record Gea4Call (key : List ℕ) (input direction m : ℕ) (before : List ℕ) (refusal : ℕ) (after : List ℕ) : Type 0 where
-  pub refusal-is : refusal ≡ first (gea4Order key direction m before)
-  pub output-is : after ≡ lent refusal (gea4Output key input direction m) before
+-- keystreams::gea4 puts M octets
+abbrev pub gea4Call : List ℕ → ℕ → ℕ → ℕ → List ℕ → Call (List ℕ)
+gea4Call key input direction m output = puts (gea4Order key direction m output) (gea4Output key input direction m) output

@@ -3,20 +3,48 @@ pub mod kinds;
 
 ghost use mathlib.Core.Path.{_≡_};
 ghost use Prim.Native.Nat.{_<_, _≤_};
-ghost use Rattle.keystreams.specs.A5.{A5Call, gsmKind, ecsdKind};
-ghost use Rattle.keystreams.specs.Gea4.{Gea4Call};
+ghost use mathlib.Core.List.{[]};
+ghost use Rattle.refusals.specs.Call.{Answered};
+ghost use Rattle.keystreams.specs.Key.{prepareKeyCall};
+ghost use Rattle.keystreams.specs.A5.{a5Call, gsmKind, ecsdKind};
+ghost use Rattle.keystreams.specs.Gea4.{gea4Call};
 use kgcore::Inputs;
 use kinds::Ecsd;
 use kinds::Gea4;
 use kinds::Gsm;
 use kinds::Kind;
 
+// The 16 octets that a key yields, or 16 zeros where it is refused.
+pub struct PreparedKey {
+    pub refusal: u8,
+    pub key: [u8; 16],
+}
+
+// Prepares a key. A key of 16 octets yields itself.
+pub fn prepare_key(key: &[u8]) -> PreparedKey
+    ensures { λ r. ⌜ Answered (prepareKeyCall (now (key .entry))) (r .refusal) [] (r .key) ⌝ }
+{
+    let mut octets = [0u8; 16];
+    if key.len() != 16 {
+        return PreparedKey {
+            refusal: refusals::KEY,
+            key: octets,
+        };
+    }
+    bytes::copy(key, &mut octets);
+    PreparedKey {
+        refusal: 0,
+        key: octets,
+    }
+}
+
 // A5/4 of a kind: COUNT has 22 bits, and half of the bits go to each block.
 fn a5(kind: Kind, key: &[u8], count: u32, block1: &mut [u8], block2: &mut [u8]) -> u8
     requires { ⌜ (kind .cb ≤ 31) × ((0 < kind .cl) × (kind .cl ≤ 696)) ⌝ }
-    ensures { λ r. ⌜ A5Call kind (now (key .entry)) count (now (block1 .entry)) (now (block2 .entry)) r (now (block1 .exit)) (now (block2 .exit)) ⌝ }
+    ensures { λ r. ⌜ Answered (a5Call kind (now (key .entry)) count (record { one = now (block1 .entry); two = now (block2 .entry) })) r [] (record { one = now (block1 .exit); two = now (block2 .exit) }) ⌝ }
 {
-    if key.len() != 16 {
+    let prepared = prepare_key(key);
+    if prepared.refusal != 0 {
         return refusals::KEY;
     }
     if 4194303 < count {
@@ -30,6 +58,7 @@ fn a5(kind: Kind, key: &[u8], count: u32, block1: &mut [u8], block2: &mut [u8]) 
     if block2.len() < size {
         return refusals::ROOM;
     }
+    let octets = prepared.key;
     let mut stream = [0u8; 87];
     kgcore::kgcore(
         Inputs {
@@ -39,7 +68,7 @@ fn a5(kind: Kind, key: &[u8], count: u32, block1: &mut [u8], block2: &mut [u8]) 
             cd: 0,
             ce: kind.ce,
         },
-        key,
+        &octets,
         kind.cl,
         &mut stream,
     );
@@ -50,7 +79,7 @@ fn a5(kind: Kind, key: &[u8], count: u32, block1: &mut [u8], block2: &mut [u8]) 
 
 // A5/4 for GSM: two blocks of 114 bits, 15 octets each.
 pub fn gsm(key: &[u8], count: u32, block1: &mut [u8], block2: &mut [u8]) -> u8
-    ensures { λ r. ⌜ A5Call gsmKind (now (key .entry)) count (now (block1 .entry)) (now (block2 .entry)) r (now (block1 .exit)) (now (block2 .exit)) ⌝ }
+    ensures { λ r. ⌜ Answered (a5Call gsmKind (now (key .entry)) count (record { one = now (block1 .entry); two = now (block2 .entry) })) r [] (record { one = now (block1 .exit); two = now (block2 .exit) }) ⌝ }
 {
     let kind = Kind {
         ca: Gsm::CA,
@@ -63,7 +92,7 @@ pub fn gsm(key: &[u8], count: u32, block1: &mut [u8], block2: &mut [u8]) -> u8
 
 // A5/4 for ECSD: two blocks of 348 bits, 44 octets each.
 pub fn ecsd(key: &[u8], count: u32, block1: &mut [u8], block2: &mut [u8]) -> u8
-    ensures { λ r. ⌜ A5Call ecsdKind (now (key .entry)) count (now (block1 .entry)) (now (block2 .entry)) r (now (block1 .exit)) (now (block2 .exit)) ⌝ }
+    ensures { λ r. ⌜ Answered (a5Call ecsdKind (now (key .entry)) count (record { one = now (block1 .entry); two = now (block2 .entry) })) r [] (record { one = now (block1 .exit); two = now (block2 .exit) }) ⌝ }
 {
     let kind = Kind {
         ca: Ecsd::CA,
@@ -76,9 +105,10 @@ pub fn ecsd(key: &[u8], count: u32, block1: &mut [u8], block2: &mut [u8]) -> u8
 
 // GEA4: `m` octets for an INPUT and a direction.
 pub fn gea4(key: &[u8], input: u32, direction: u8, m: u32, output: &mut [u8]) -> u8
-    ensures { λ r. ⌜ Gea4Call (now (key .entry)) input direction m (now (output .entry)) r (now (output .exit)) ⌝ }
+    ensures { λ r. ⌜ Answered (gea4Call (now (key .entry)) input direction m (now (output .entry))) r [] (now (output .exit)) ⌝ }
 {
-    if key.len() != 16 {
+    let prepared = prepare_key(key);
+    if prepared.refusal != 0 {
         return refusals::KEY;
     }
     if 1 < direction {
@@ -93,6 +123,7 @@ pub fn gea4(key: &[u8], input: u32, direction: u8, m: u32, output: &mut [u8]) ->
     if output.len() < m as usize {
         return refusals::ROOM;
     }
+    let octets = prepared.key;
     let inputs = Inputs {
         ca: Gea4::CA,
         cb: Gea4::CB,
@@ -100,5 +131,5 @@ pub fn gea4(key: &[u8], input: u32, direction: u8, m: u32, output: &mut [u8]) ->
         cd: direction,
         ce: Gea4::CE,
     };
-    kgcore::kgcore(inputs, key, 8 * m, output)
+    kgcore::kgcore(inputs, &octets, 8 * m, output)
 }

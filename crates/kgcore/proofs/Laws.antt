@@ -1,19 +1,20 @@
 -- The laws of the keystream for its callers.
 -- Assumes nothing.
 use Prim.Native.Nat.{ℕ, _%_, _≤_, _<_}
-use mathlib.Core.Path.{_≡_, ap, ap₂, _∙_}
+use mathlib.Core.Path.{_≡_, ap₂}
 use mathlib.Core.Bool.{_||_, false}
-use mathlib.Core.List.{List, _++_}
+use mathlib.Core.List.{List}
 use native.Mathlib.Omega.{arith}
 use borrow.Author.Tests.{le-ltb, eq-eqb, ne-eqb}
 use lib.Dec.{eqb, ltb}
-use lib.ListN.{length, drop}
-use Rattle.refusals.specs.Refusal.{first, lent}
+use lib.ListN.{length}
+use Rattle.refusals.specs.Refusal.{first}
+use Rattle.refusals.specs.Call.{Answered, front}
+use Rattle.refusals.proofs.Calls.{answered-done}
 use Rattle.octets.specs.Bits.{size, stored}
 use Rattle.octets.proofs.Number.{bitAt-lt}
-use Rattle.octets.proofs.Stored.{lent-stored}
 use Rattle.kgcore.specs.declared.Inputs.{Inputs}
-use Rattle.kgcore.specs.Kgcore.{KgcoreCall, kgcoreOrder, keyBit}
+use Rattle.kgcore.specs.Kgcore.{kgcoreCall, kgcoreOrder, keyBit}
 
 -- a bit of the keystream is 0 or 1
 pub keyBit-lt : (key : List ℕ) (inputs : Inputs) (i : ℕ) → keyBit key inputs i < 2
@@ -21,16 +22,12 @@ unfolding keyBit
 keyBit-lt key inputs i = bitAt-lt 64 _ (i % 64)
 
 -- where no cause of a refusal holds the output has the first CL bits of the keystream, and the octets past them are kept
-pub kgcore-done : {key : List ℕ} {inputs : Inputs} {cl : ℕ} {before : List ℕ} {refusal : ℕ} {after : List ℕ} → KgcoreCall key inputs cl before refusal after
+pub kgcore-done : (inputs : Inputs) (key : List ℕ) (cl : ℕ) (before : List ℕ) {refusal : ℕ} {numbers after : List ℕ} → Answered (kgcoreCall inputs key cl before) refusal numbers after
     → length key ≡ 16 → inputs .cb ≤ 31 → inputs .cd ≤ 1 → 0 < cl → cl ≤ 524288 → size cl ≤ length before
-    → (refusal ≡ 0) × (after ≡ stored (keyBit key inputs) 0 cl ++ drop (size cl) before)
+    → (refusal ≡ 0) × (after ≡ front (stored (keyBit key inputs) 0 cl) before)
 unfolding first kgcoreOrder
-kgcore-done {key} {inputs} {cl} {before} {refusal} call sixteen cb cd some most room =
+kgcore-done inputs key cl before answered sixteen cb cd some most room =
     let range : (ltb 31 (inputs .cb) || ltb 1 (inputs .cd)) ≡ false = ap₂ _||_ (le-ltb 31 (inputs .cb) cb) (le-ltb 1 (inputs .cd) cd) in
     let bits : (eqb cl 0 || ltb 524288 cl) ≡ false = ap₂ _||_ (ne-eqb cl 0 (omega arith)) (le-ltb 524288 cl most) in
-    let done : refusal ≡ 0 = call .refusal-is ∙ rw (eq-eqb (length key) 16 sixteen, range, bits, le-ltb (length before) (size cl) room) in (
-      done,
-      call .output-is
-          ∙ ap (λ (n : ℕ). lent n (stored (keyBit key inputs) 0 cl) before) done
-          ∙ lent-stored (keyBit key inputs) 0 cl before,
-    )
+    let done = answered-done (kgcoreCall inputs key cl before) answered (rw (eq-eqb (length key) 16 sixteen, range, bits, le-ltb (length before) (size cl) room)) in
+    (done .0, done .2)

@@ -1,4 +1,3 @@
--- The laws of this crate: the blocks one after the other, the keystream for its callers, and the calls' outcomes.
-pub mod Determined
+-- The laws of this crate: the blocks one after the other, and the keystream for its callers.
 pub mod Laws
 pub mod Stream

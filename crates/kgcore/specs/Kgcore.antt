@@ -1,14 +1,14 @@
 -- The core keystream generator KGCORE of document 004, section 4. Assumes nothing.
 use Prim.Native.Nat.{ℕ, zero, suc, _+_, _/_, _%_}
-use mathlib.Core.Path.{_≡_}
 use mathlib.Core.Bool.{not, _||_}
 use mathlib.Core.List.{List, [], _∷_, map}
 use lib.Bits.{bitXor}
 use lib.Dec.{eqb, ltb}
 use lib.ListN.{length}
-use Rattle.refusals.specs.Refusal.{Row, first, lent}
-use Rattle.octets.specs.Bits.{bitAt, size, stored}
-use Rattle.kasumi.specs.Kasumi.{join, kasumi}
+use Rattle.refusals.specs.Refusal.{Row}
+use Rattle.refusals.specs.Call.{Call, puts}
+use Rattle.octets.specs.Bits.{bitAt, join, size, stored}
+use Rattle.kasumi.specs.Kasumi.{kasumi}
 use Rattle.kgcore.specs.declared.Inputs.{Inputs}
 
 -- the register A at first: CC (32 bits), CB (5), CD (1), two zero bits, CA (8), CE (16), one after the other (4.4)
@@ -45,7 +45,6 @@ kgcoreOrder key inputs cl output =
     record { number = 3; holds = eqb cl 0 || ltb 524288 cl } ∷
     record { number = 4; holds = ltb (length output) (size cl) } ∷ []
 
--- a call: the refusal, and what the lent output then holds
-pub record KgcoreCall (key : List ℕ) (inputs : Inputs) (cl : ℕ) (before : List ℕ) (refusal : ℕ) (after : List ℕ) : Type 0 where
-  pub refusal-is : refusal ≡ first (kgcoreOrder key inputs cl before)
-  pub output-is : after ≡ lent refusal (stored (keyBit key inputs) 0 cl) before
+-- kgcore::kgcore puts the first CL bits of the output CO
+abbrev pub kgcoreCall : Inputs → List ℕ → ℕ → List ℕ → Call (List ℕ)
+kgcoreCall inputs key cl output = puts (kgcoreOrder key inputs cl output) (stored (keyBit key inputs) 0 cl) output

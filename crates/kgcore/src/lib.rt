@@ -1,12 +1,13 @@
 // The core keystream generator KGCORE of document 004: KASUMI in a form of output feedback.
 ghost use mathlib.Core.Path.{_≡_};
-ghost use mathlib.Core.List.{_++_};
+ghost use mathlib.Core.List.{[], _++_};
 ghost use Prim.Native.Nat.{_≤_, _<_, min};
 ghost use lib.Bits.{bitXor};
 ghost use lib.ListN.{length, drop};
 ghost use Rattle.octets.specs.Bits.{bitAt, octet, listed, size as Bits·size, stored};
 ghost use Rattle.kasumi.specs.Kasumi.{kasumi as Kasumi·kasumi};
-ghost use Rattle.kgcore.specs.Kgcore.{KgcoreCall, keyBit, registerA};
+ghost use Rattle.refusals.specs.Call.{Answered};
+ghost use Rattle.kgcore.specs.Kgcore.{kgcoreCall, keyBit, registerA};
 ghost use Rattle.kgcore.specs.Kgcore.{register as Kgcore·register, modified as Kgcore·modified, blocks as Kgcore·blocks};
 
 // The most bits that one call may ask for: 2^19 (document 01, "On the bench, and off it").
@@ -115,7 +116,7 @@ fn generate(inputs: Inputs, key: &[u8], cl: u32, output: &mut [u8])
 
 // The first CL bits of the keystream, into the output.
 pub fn kgcore(inputs: Inputs, key: &[u8], cl: u32, output: &mut [u8]) -> u8
-    ensures { λ r. ⌜ KgcoreCall (now (key .entry)) inputs cl (now (output .entry)) r (now (output .exit)) ⌝ }
+    ensures { λ r. ⌜ Answered (kgcoreCall inputs (now (key .entry)) cl (now (output .entry))) r [] (now (output .exit)) ⌝ }
 {
     if key.len() != 16 {
         return refusals::KEY;

@@ -10,6 +10,10 @@ use lib.ListN.{getD}
 unfoldable pub bitAt : ℕ → ℕ → ℕ → ℕ
 bitAt width x i = x / 2 ^ (width - 1 - i) % 2
 
+-- two numbers one after the other, the second of `width` bits
+abbrev pub join : ℕ → ℕ → ℕ → ℕ
+join width l r = l * 2 ^ width + r
+
 -- bit i of a list of octets
 unfoldable pub bitOf : List ℕ → ℕ → ℕ
 bitOf octets i = bitAt 8 (getD octets (i / 8) 0) (i % 8)

@@ -6,6 +6,7 @@ ghost use lib.ListN.{getD};
 ghost use Rattle.octets.specs.Bits.{bitOf, number, firstBits, size as Bits·size};
 ghost use Rattle.refusals.specs.Call.{Answered};
 ghost use Rattle.octets.specs.Cut.{cutCall};
+ghost use Rattle.octets.specs.Xor.{xorCall};
 
 // How many octets hold `count` bits.
 pub fn size(count: u32) -> usize
@@ -26,7 +27,7 @@ pub fn first_bits(whole: u8, count: usize) -> u8
 }
 
 // The octet at a place of the source, or 0 past its end.
-fn octet_or_zero(source: &[u8], place: usize) -> u8
+pub fn octet_or_zero(source: &[u8], place: usize) -> u8
     ensures { λ r. ⌜ r ≡ getD (now (source .entry)) place 0 ⌝ }
 {
     if place < source.len() {
@@ -61,6 +62,21 @@ pub fn cut(source: &[u8], start: u32, count: u32, output: &mut [u8]) -> u8
             count as usize - 8 * k,
         );
         k += 1;
+    }
+    0
+}
+
+// Puts the source xor the stream to the front of the output. Where the stream has ended, the source stays as it is.
+pub fn xor(source: &[u8], stream: &[u8], output: &mut [u8]) -> u8
+    ensures { λ r. ⌜ Answered (xorCall (now (source .entry)) (now (stream .entry)) (now (output .entry))) r [] (now (output .exit)) ⌝ }
+{
+    if output.len() < source.len() {
+        return refusals::ROOM;
+    }
+    let mut i = 0;
+    while i < source.len() {
+        output[i] = source[i] ^ octet_or_zero(stream, i);
+        i += 1;
     }
     0
 }

@@ -9,9 +9,9 @@ use borrow.Author.Tests.{lt-ltb, le-ltb, eq-eqb, ne-eqb, ltb-false}
 use denote.Ref.{now}
 use lib.Dec.{eqb, ltb}
 use lib.ListN.{length}
-use Rattle.refusals.specs.Refusal.{first, lent}
+use Rattle.refusals.specs.Refusal.{first}
 use Rattle.octets.specs.Bits.{size}
-use Rattle.octets.proofs.Stored.{lent-stored}
+use Rattle.octets.proofs.Stored.{front-stored}
 use Rattle.kgcore.specs.Kgcore.{keyBit, kgcoreOrder}
 use Rattle.kgcore.proofs.kgcore.Statement.{statement}
 use Rattle.kgcore.proofs.kgcore.Tie as tie
@@ -48,30 +48,31 @@ room-decides c = rw (key-right (c .before .before .before .before .before .befor
 -- ---- the answers
 
 returns : tie.Need-returns
-unfolding first kgcoreOrder lent
-returns c = record { refusal-is = rw (ne-eqb _ _ (c .if1 .taken)); output-is = refl }
+unfolding first kgcoreOrder
+returns c = record { refusal-is = rw (ne-eqb _ _ (c .if1 .taken)); numbers-are = refl; lent-is = refl }
 
 returns-2 : tie.Need-returns-2
-unfolding first kgcoreOrder lent
-returns-2 c = record { refusal-is = rw (key-right (c .before .before), range-wrong c); output-is = refl }
+unfolding first kgcoreOrder
+returns-2 c = record { refusal-is = rw (key-right (c .before .before), range-wrong c); numbers-are = refl; lent-is = refl }
 
 returns-3 : tie.Need-returns-3
-unfolding first kgcoreOrder lent
+unfolding first kgcoreOrder
 returns-3 c = record {
   refusal-is = rw (key-right (c .before .before .before .before .before), range-right (c .before), size-wrong c);
-  output-is = refl;
+  numbers-are = refl;
+  lent-is = refl;
 }
 
 size-requires : tie.Need-size-requires
 size-requires c κs = search needs
 
 returns-4 : tie.Need-returns-4
-unfolding lent
 returns-4 c =
     let given = c .before .before .before .before .before .before .before .before .before .before .before .args in
     record {
       refusal-is = sym (room-decides (c .before .before) ∙ rw (lt-ltb (length (now (given .output))) (size (given .cl)) (omega arith)));
-      output-is = refl;
+      numbers-are = refl;
+      lent-is = refl;
     }
 
 generate-requires : tie.Need-generate-requires
@@ -86,7 +87,8 @@ returns-5 c =
     let given = at-test .before .before .before .before .before .before .before .before .before .before .before .args in
     record {
       refusal-is = sym (room-decides (at-test .before .before) ∙ rw (le-ltb (length (now (given .output))) (size (given .cl)) (omega arith)));
-      output-is = c .before .before .generate .ensures ∙ sym (lent-stored (keyBit (now (given .key)) (given .inputs)) 0 (given .cl) (now (given .output)));
+      numbers-are = refl;
+      lent-is = c .before .before .generate .ensures ∙ sym (front-stored (keyBit (now (given .key)) (given .inputs)) 0 (given .cl) (now (given .output)));
     }
 
 pub kgcore-spec : {M : Type 1} → statement M
