@@ -1,4 +1,4 @@
--- The laws of the bench frame: what its tests say, its layout, and the calls' outcomes.
-pub mod Determined
+-- The laws of the bench frame: what its tests say, its layout, the look and the writing of a header.
+pub mod Laws
 pub mod ReadBack
 pub mod Tests

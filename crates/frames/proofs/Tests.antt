@@ -6,7 +6,7 @@ use mathlib.Core.Bool.{true, false}
 use mathlib.Core.List.{List, []}
 use borrow.Author.Tests.{le-leb, leb-true, eq-eqb, ne-eqb, eqb-true, not-false}
 use lib.ListN.{length, getD}
-use Rattle.refusals.specs.Refusal.{absent, distinct, first, rowAt}
+use Rattle.refusals.specs.Refusal.{first, rowAt}
 use Rattle.refusals.proofs.Laws.{then-and-only-then}
 use Rattle.refusals.proofs.Tests.{both}
 use Rattle.frames.specs.declared.Header.{Header}
@@ -79,7 +79,7 @@ pub record Framed (octets : List ℕ) : Type 0 where
 module _ (octets : List ℕ) where
   -- a look refuses nothing exactly where the octets are so
   pub looked-framed : first (lookOrder octets) ≡ 0 → Framed octets
-  unfolding lookOrder distinct absent rowAt
+  unfolding lookOrder rowAt
   looked-framed nothing =
       let passed : (k : ℕ) → rowAt (lookOrder octets) k .holds ≡ false = then-and-only-then (lookOrder octets) tt 0 (sym nothing) .none .0 refl in
       record {

@@ -1,11 +1,11 @@
 -- The bench frame of document 01, "The link", octet by octet. Assumes nothing.
 use Prim.Native.Nat.{ℕ, _+_, _*_, _/_, _%_, _<_}
-use mathlib.Core.Path.{_≡_}
 use mathlib.Core.Bool.{Bool, cond, not, _&&_, _||_}
 use mathlib.Core.List.{List, [], _∷_, _++_}
 use lib.Dec.{eqb, leb, ltb}
 use lib.ListN.{length, getD, drop}
-use Rattle.refusals.specs.Refusal.{Row, first, lent}
+use Rattle.refusals.specs.Refusal.{Row, first}
+use Rattle.refusals.specs.Call.{Call, tells, puts}
 use Rattle.frames.specs.declared.Header.{Header}
 
 -- a number as two octets, the high one first
@@ -24,7 +24,7 @@ headerOctets header p = pair (p + 4) ++ (1 ∷ (header .sapi * 16 + header .dire
 unfoldable pub frame : Header → List ℕ → List ℕ
 frame header payload = headerOctets header (length payload) ++ payload
 
--- what octets say, read as a frame; octets that are missing read as 0
+-- frames::header_of: what octets say, read as a frame; octets that are missing read as 0
 unfoldable pub headerOf : List ℕ → Header
 headerOf octets = record { sapi = getD octets 3 0 / 16; direction = getD octets 3 0 % 2; sent = pairAt octets 4 }
 
@@ -51,11 +51,15 @@ lookOrder octets =
     record { number = 6; holds = not (eqb (getD octets 2 0) 1) } ∷
     record { number = 7; holds = not (hasZeroBits octets) } ∷ []
 
--- the ciphered payload of a frame that a look does not refuse, and nothing of any other
+-- frames::look_refusal
+abbrev pub lookRefusalCall : List ℕ → Call (Unit {0})
+lookRefusalCall octets = tells (lookOrder octets) []
+
+-- frames::look: the ciphered payload of a frame that a look does not refuse, and nothing of any other
 unfoldable pub looked : List ℕ → List ℕ
 looked octets = cond (eqb (first (lookOrder octets)) 0) (payloadOf octets) []
 
--- a service number, a direction and an N that exist
+-- a service number of four bits, a direction of one and an N of nine: what the octets have room for
 unfoldable pub isHeader : Header → Bool
 isHeader header = leb (header .sapi) 15 && (leb (header .direction) 1 && leb (header .sent) 511)
 
@@ -66,7 +70,6 @@ headerOrder header p output =
     record { number = 3; holds = eqb p 0 || ltb 1520 p } ∷
     record { number = 4; holds = ltb (length output) 6 } ∷ []
 
--- writing a header: the refusal, and what the lent output then holds
-pub record HeaderCall (header : Header) (p : ℕ) (before : List ℕ) (refusal : ℕ) (after : List ℕ) : Type 0 where
-  pub refusal-is : refusal ≡ first (headerOrder header p before)
-  pub output-is : after ≡ lent refusal (headerOctets header p) before
+-- frames::put_header
+abbrev pub putHeaderCall : Header → ℕ → List ℕ → Call (List ℕ)
+putHeaderCall header p output = puts (headerOrder header p output) (headerOctets header p) output

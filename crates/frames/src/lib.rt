@@ -1,11 +1,12 @@
 // The bench frame: six octets of header, then the ciphered payload of 1 to 1,520 octets.
 ghost use mathlib.Core.Path.{_≡_};
 ghost use mathlib.Core.Bool.{true};
-ghost use mathlib.Core.List.{_++_};
+ghost use mathlib.Core.List.{[], _++_};
 ghost use Prim.Native.Nat.{_+_, _*_, _≤_};
-ghost use lib.ListN.{length, getD, drop};
-ghost use Rattle.refusals.specs.Refusal.{first};
-ghost use Rattle.frames.specs.Frame.{headerOf, headerOctets, looked, lookOrder, isWhole, hasZeroBits, isHeader, HeaderCall};
+ghost use lib.ListN.{length, drop};
+ghost use Rattle.refusals.specs.Call.{Answered};
+ghost use Rattle.frames.specs.Frame.{headerOf, headerOctets, looked, lookRefusalCall, isWhole, hasZeroBits, isHeader, putHeaderCall};
+use octets::octet_or_zero;
 
 // The version that octet 2 names.
 const VERSION: u8 = 1;
@@ -23,13 +24,6 @@ pub struct Header {
     pub sent: u32,
 }
 
-// The octet at a place of a frame, or 0 past its end.
-fn octet(frame: &[u8], place: usize) -> u8
-    ensures { λ r. ⌜ r ≡ getD (now (frame .entry)) place 0 ⌝ }
-{
-    if place < frame.len() { frame[place] } else { 0 }
-}
-
 // The number that two octets write.
 fn pair(high: u8, low: u8) -> u32
     ensures { λ r. ⌜ r ≡ high * 256 + low ⌝ }
@@ -42,7 +36,7 @@ fn is_whole(frame: &[u8]) -> bool
     ensures { λ r. ⌜ r ≡ isWhole (now (frame .entry)) ⌝ }
 {
     let size = frame.len();
-    let count = pair(octet(frame, 0), octet(frame, 1)) as usize;
+    let count = pair(octet_or_zero(frame, 0), octet_or_zero(frame, 1)) as usize;
     (7 <= size) & ((5 <= count) & ((count <= 1524) & (size == count + 2)))
 }
 
@@ -50,17 +44,17 @@ fn is_whole(frame: &[u8]) -> bool
 fn has_zero_bits(frame: &[u8]) -> bool
     ensures { λ r. ⌜ r ≡ hasZeroBits (now (frame .entry)) ⌝ }
 {
-    (octet(frame, 3) / 2 % 8 == 0) & (octet(frame, 4) / 2 == 0)
+    (octet_or_zero(frame, 3) / 2 % 8 == 0) & (octet_or_zero(frame, 4) / 2 == 0)
 }
 
 // Why a look at a frame is refused: 5, 6 or 7, or 0.
 pub fn look_refusal(frame: &[u8]) -> u8
-    ensures { λ r. ⌜ r ≡ first (lookOrder (now (frame .entry))) ⌝ }
+    ensures { λ r. ⌜ Answered (lookRefusalCall (now (frame .entry))) r [] tt ⌝ }
 {
     if !is_whole(frame) {
         return refusals::LENGTH;
     }
-    if octet(frame, 2) != VERSION {
+    if octet_or_zero(frame, 2) != VERSION {
         return refusals::VERSION;
     }
     if !has_zero_bits(frame) {
@@ -83,15 +77,15 @@ pub fn look(frame: &[u8]) -> &[u8]
 pub fn header_of(frame: &[u8]) -> Header
     ensures { λ r. ⌜ r ≡ headerOf (now (frame .entry)) ⌝ }
 {
-    let service = octet(frame, 3);
+    let service = octet_or_zero(frame, 3);
     Header {
         sapi: service / 16,
         direction: service % 2,
-        sent: pair(octet(frame, 4), octet(frame, 5)),
+        sent: pair(octet_or_zero(frame, 4), octet_or_zero(frame, 5)),
     }
 }
 
-// A service number, a direction and an N that exist.
+// A service number, a direction and an N that the octets have room for.
 fn is_header(header: Header) -> bool
     ensures { λ r. ⌜ r ≡ isHeader header ⌝ }
 {
@@ -114,7 +108,7 @@ fn write_header(header: Header, size: usize, output: &mut [u8])
 
 // Puts the header of a payload of `size` octets to the front of the output.
 pub fn put_header(header: Header, size: usize, output: &mut [u8]) -> u8
-    ensures { λ r. ⌜ HeaderCall header size (now (output .entry)) r (now (output .exit)) ⌝ }
+    ensures { λ r. ⌜ Answered (putHeaderCall header size (now (output .entry))) r [] (now (output .exit)) ⌝ }
 {
     if !is_header(header) {
         return refusals::RANGE;

@@ -5,11 +5,11 @@ use Rattle.frames.specs.Frame.{isWhole, pairAt}
 use Rattle.frames.proofs.is_whole.Statement.{statement}
 use Rattle.frames.proofs.is_whole.Tie as tie
 
-octet-requires : tie.Need-octet-requires
-octet-requires c κs = search needs
+octet-or-zero-requires : tie.Need-octet-or-zero-requires
+octet-or-zero-requires c κs = search needs
 
-octet-requires-2 : tie.Need-octet-requires-2
-octet-requires-2 c κs = search needs
+octet-or-zero-requires-2 : tie.Need-octet-or-zero-requires-2
+octet-or-zero-requires-2 c κs = search needs
 
 pair-requires : tie.Need-pair-requires
 pair-requires c κs = search needs
@@ -27,4 +27,4 @@ returns c = cc
 pub is-whole-spec : {M : Type 1} → statement M
 is-whole-spec =
     tie.close
-    (tie.spec octet-requires octet-requires-2 pair-requires cast-count add-result returns)
+    (tie.spec octet-or-zero-requires octet-or-zero-requires-2 pair-requires cast-count add-result returns)

@@ -20,11 +20,11 @@ slice-aggregate-result : tie.Need-slice-aggregate-result
 slice-aggregate-result c = search needs
 
 returns : tie.Need-returns
-returns c = sym (looked-refused (now (c .before .before .before .before .args .frame)) (rw (c .before .before .look-refusal .ensures) at (c .before .if1 .taken)))
+returns c = sym (looked-refused (now (c .before .before .before .before .args .frame)) (rw (c .before .before .look-refusal .ensures .refusal-is) at (c .before .if1 .taken)))
 
 -- past the test nothing is refused, so there are the octets of the header
 nothing : (c : tie.Else1) → first (lookOrder (now (c .before .before .before .args .frame))) ≡ 0
-nothing c = sym (c .before .look-refusal .ensures) ∙ c .if1 .left
+nothing c = sym (c .before .look-refusal .ensures .refusal-is) ∙ c .if1 .left
 
 long : (c : tie.Else1) → 7 ≤ length (now (c .before .before .before .args .frame))
 long c = looked-framed (now (c .before .before .before .args .frame)) (nothing c) .whole .seven-least

@@ -8,8 +8,8 @@ use borrow.Author.Tests.{eq-eqb, ne-eqb, lt-ltb, le-ltb, not-true, not-false}
 use denote.Ref.{now}
 use lib.Dec.{ltb}
 use lib.ListN.{length}
-use Rattle.refusals.specs.Refusal.{first, lent}
-use Rattle.refusals.proofs.Laws.{lent-done}
+use Rattle.refusals.specs.Refusal.{first}
+use Rattle.refusals.specs.Call.{front}
 use Rattle.frames.specs.Frame.{headerOctets, pair, isHeader, headerOrder}
 use Rattle.frames.proofs.put_header.Statement.{statement}
 use Rattle.frames.proofs.put_header.Tie as tie
@@ -18,20 +18,20 @@ is-header-requires : tie.Need-is-header-requires
 is-header-requires c κs = search needs
 
 returns : tie.Need-returns
-unfolding first lent headerOrder
-returns c = record { refusal-is = simp (sym (c .before .is-header .ensures) ∙ not-true _ (c .if1 .taken)); output-is = refl }
+unfolding first headerOrder
+returns c = record { refusal-is = simp (sym (c .before .is-header .ensures) ∙ not-true _ (c .if1 .taken)); numbers-are = refl; lent-is = refl }
 
 -- past the first test the header is in range
 in-range : (c : tie.Else1) → isHeader (c .before .before .before .args .header) ≡ true
 in-range c = sym (c .before .is-header .ensures) ∙ not-false _ (c .if1 .left)
 
 returns-2 : tie.Need-returns-2
-unfolding first lent headerOrder
-returns-2 c = record { refusal-is = simp (in-range (c .before), eq-eqb _ _ (c .if2 .taken)); output-is = refl }
+unfolding first headerOrder
+returns-2 c = record { refusal-is = simp (in-range (c .before), eq-eqb _ _ (c .if2 .taken)); numbers-are = refl; lent-is = refl }
 
 returns-3 : tie.Need-returns-3
-unfolding first lent headerOrder
-returns-3 c = record { refusal-is = simp (in-range (c .before .before), ne-eqb _ _ (c .before .if2 .left), lt-ltb _ _ (c .if3 .taken)); output-is = refl }
+unfolding first headerOrder
+returns-3 c = record { refusal-is = simp (in-range (c .before .before), ne-eqb _ _ (c .before .if2 .left), lt-ltb _ _ (c .if3 .taken)); numbers-are = refl; lent-is = refl }
 
 -- past the first three, the room decides
 causes : (c : tie.Else3) → let given = c .before .before .before .before .before .args in
@@ -40,8 +40,7 @@ unfolding first headerOrder
 causes c = simp (in-range (c .before .before), ne-eqb _ _ (c .before .if2 .left), le-ltb _ _ (c .if3 .left))
 
 returns-4 : tie.Need-returns-4
-unfolding lent
-returns-4 c = record { refusal-is = simp (causes (c .before), lt-ltb _ _ (c .if4 .taken)); output-is = refl }
+returns-4 c = record { refusal-is = simp (causes (c .before), lt-ltb _ _ (c .if4 .taken)); numbers-are = refl; lent-is = refl }
 
 write-header-requires : tie.Need-write-header-requires
 write-header-requires c κs = (in-range (c .before .before .before .before), (omega arith, omega arith))
@@ -50,13 +49,13 @@ same-length : tie.Need-same-length
 same-length c = search needs
 
 returns-5 : tie.Need-returns-5
-unfolding headerOctets pair
+unfolding headerOctets pair front
 returns-5 c =
     let past = c .before .before .before .before in
-    let given = past .before .before .before .before .before .before .args in
     record {
       refusal-is = sym (causes (past .before) ∙ simp (le-ltb _ _ (past .if4 .left)));
-      output-is = c .before .before .write-header .ensures ∙ sym (lent-done (headerOctets (given .header) (given .size)) (now (given .output)));
+      numbers-are = refl;
+      lent-is = c .before .before .write-header .ensures;
     }
 
 pub put-header-spec : {M : Type 1} → statement M
