@@ -1,8 +1,3 @@
--- The laws of the link: its ends, the xor, the frame of a number, what the calls answer and determine, and what callers use.
-pub mod Determined
-pub mod Ends
+-- The laws of a link: what opening it asks, and the frame of a number.
 pub mod Frames
-pub mod Laws
-pub mod Opening
-pub mod Sealing
-pub mod Xor
+pub mod Links

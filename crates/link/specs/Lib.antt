@@ -1,4 +1,2 @@
 pub mod Input
 pub mod Link
-pub mod Open
-pub mod Seal

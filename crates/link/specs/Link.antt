@@ -1,11 +1,12 @@
 -- What both ends of a link share, and the frame of a number on it. Assumes nothing.
 use Prim.Native.Nat.{ℕ, _%_}
-use mathlib.Core.Bool.{Bool, cond, not, _&&_}
-use mathlib.Core.List.{List, [], _∷_, zipWith}
-use lib.Bits.{bitXor}
-use lib.Dec.{eqb, leb}
+use mathlib.Core.Bool.{Bool, not, _&&_, _||_}
+use mathlib.Core.List.{List, [], _∷_}
+use lib.Dec.{eqb, leb, ltb}
 use lib.ListN.{length, replicate}
 use Rattle.refusals.specs.Refusal.{Row}
+use Rattle.refusals.specs.Call.{Call, puts, makes}
+use Rattle.octets.specs.Xor.{xored}
 use Rattle.keystreams.specs.Key.{isKey, prepared}
 use Rattle.keystreams.specs.Gea4.{gea4Output}
 use Rattle.frames.specs.declared.Header.{Header}
@@ -13,14 +14,54 @@ use Rattle.frames.specs.Frame.{frame}
 use Rattle.link.specs.Input.{inputOf}
 use Rattle.link.specs.declared.Link.{Link}
 
--- a service number and a direction that exist
-unfoldable pub inRange : ℕ → ℕ → Bool
-inRange sapi direction = leb sapi 15 && leb direction 1
+-- a service number that exists
+unfoldable pub isService : ℕ → Bool
+isService sapi = leb sapi 15
+
+-- a direction: 0 phone to cell, 1 cell to phone
+unfoldable pub isDirection : ℕ → Bool
+isDirection direction = leb direction 1
+
+-- link::can_arise: a link whose service number and direction exist
+unfoldable pub linkCanArise : Link → Bool
+linkCanArise link = isService (link .sapi) && isDirection (link .direction)
+
+-- the refusals of opening a link, and so either end of it, in their order
+unfoldable pub linkOrder : List ℕ → ℕ → ℕ → List Row
+linkOrder key sapi direction =
+    record { number = 1; holds = not (isKey key) } ∷
+    record { number = 2; holds = not (isService sapi && isDirection direction) } ∷ []
+
+-- no link: all zeros with direction 2, which no call takes
+unfoldable pub noLink : Link
+noLink = record { key = replicate 16 0; iov = 0; sapi = 0; direction = 2 }
+
+-- the link of a key, which holds the prepared key
+unfoldable pub linkOf : List ℕ → ℕ → ℕ → ℕ → Link
+linkOf key iov sapi direction = record { key = prepared key; iov = iov; sapi = sapi; direction = direction }
+
+-- link::open_link
+abbrev pub openLinkCall : List ℕ → ℕ → ℕ → ℕ → Call Link
+openLinkCall key iov sapi direction = makes (linkOrder key sapi direction) noLink (linkOf key iov sapi direction)
 
 -- a payload xor the GEA4 octets of its number: the ciphered payload of a payload, and the payload of a ciphered one
 unfoldable pub ciphered : Link → ℕ → List ℕ → List ℕ
-ciphered link n payload =
-    zipWith bitXor payload (gea4Output (link .key) (inputOf (link .iov) (link .sapi) n) (link .direction) (length payload))
+ciphered link n payload = xored payload (gea4Output (link .key) (inputOf (link .iov) (link .sapi) n) (link .direction) (length payload))
+
+-- a payload has 1 to 1,520 octets
+unfoldable pub isPayload : List ℕ → Bool
+isPayload payload = not (eqb (length payload) 0 || ltb 1520 (length payload))
+
+-- the refusals of ciphering, in their order
+unfoldable pub cipherOrder : Link → List ℕ → List ℕ → List Row
+cipherOrder link payload output =
+    record { number = 12; holds = not (linkCanArise link) } ∷
+    record { number = 3; holds = not (isPayload payload) } ∷
+    record { number = 4; holds = ltb (length output) (length payload) } ∷ []
+
+-- link::cipher, of the payload of number n, to cipher it or to decipher it
+abbrev pub cipherCall : Link → ℕ → List ℕ → List ℕ → Call (List ℕ)
+cipherCall link n payload output = puts (cipherOrder link payload output) (ciphered link n payload) output
 
 -- what the header of number n says on this link
 unfoldable pub headerAt : Link → ℕ → Header
@@ -29,17 +70,3 @@ headerAt link n = record { sapi = link .sapi; direction = link .direction; sent 
 -- the frame of number n with this payload on this link
 unfoldable pub frameAt : Link → ℕ → List ℕ → List ℕ
 frameAt link n payload = frame (headerAt link n) (ciphered link n payload)
-
--- the refusals of opening an end, in their order
-unfoldable pub endOrder : List ℕ → ℕ → ℕ → List Row
-endOrder key sapi direction =
-    record { number = 1; holds = not (isKey key) } ∷
-    record { number = 2; holds = not (inRange sapi direction) } ∷ []
-
--- no link: all zeros with direction 2, which no call takes
-unfoldable pub noLink : Link
-noLink = record { key = replicate 16 0; iov = 0; sapi = 0; direction = 2 }
-
--- the link of an end that was opened, or no link where that is refused
-unfoldable pub linkOf : ℕ → List ℕ → ℕ → ℕ → ℕ → Link
-linkOf refusal key iov sapi direction = cond (eqb refusal 0) (record { key = prepared key; iov = iov; sapi = sapi; direction = direction }) noLink

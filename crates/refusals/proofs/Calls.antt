@@ -2,12 +2,12 @@
 -- Assumes nothing.
 use Prim.Native.Nat.{ℕ, _≤_, zero-le}
 use mathlib.Core.Path.{_≡_, refl, sym, ap, subst, _∙_}
-use mathlib.Core.Bool.{cond}
+use mathlib.Core.Bool.{Bool, true, false, cond}
 use mathlib.Core.List.{List, [], _∷_}
 use borrow.Author.Tests.{ne-eqb}
 use lib.Dec.{T, eqb, leb, leb→le}
 use Rattle.refusals.specs.Refusal.{Row, first, ThenAndOnlyThen, lastRefusal}
-use Rattle.refusals.specs.Call.{Call, PublicCall, call, function, given, Always, All, Answered, Answers, Determined, zeros, handedOut}
+use Rattle.refusals.specs.Call.{Call, PublicCall, call, function, given, Always, All, makes, Answered, Answers, Determined, zeros, handedOut}
 use Rattle.refusals.proofs.Laws.{then-and-only-then}
 use Rattle.refusals.proofs.Orders.{distinct, inTable, isOrder}
 use Rattle.refusals.proofs.Tests.{and-left, and-right, by-test}
@@ -75,6 +75,19 @@ module _ {Lent : Type 0} (call : Call Lent) where
       refuses = λ {refusal} answered.
           then-and-only-then (call .order) (and-left (distinct (call .order)) (inTable (call .order)) order) refusal (answered .refusal-is);
     }
+
+-- a state made of another state is made by the same rule
+chosen : {A B : Type 0} (f : A → B) (test : Bool) (a b : A) → f (cond test a b) ≡ cond test (f a) (f b)
+chosen f true a b = refl
+chosen f false a b = refl
+
+pub made-of : {A B : Type 0} (f : A → B) (order : List Row) (before after : A) {refusal : ℕ} {numbers : List ℕ} {lent : A}
+    → Answered (makes order before after) refusal numbers lent → Answered (makes order (f before) (f after)) refusal numbers (f lent)
+made-of f order before after {refusal} answered = record {
+  refusal-is = answered .refusal-is;
+  numbers-are = answered .numbers-are;
+  lent-is = ap f (answered .lent-is) ∙ chosen f (eqb refusal 0) after before;
+}
 
 -- what follows of one call follows of each in a list
 always : {P Q : (Lent : Type 0) → Call Lent → Type 0} → ((Lent : Type 0) (one : Call Lent) → P Lent one → Q Lent one) → (entry : PublicCall) → Always P entry → Always Q entry

@@ -1,0 +1,13 @@
+-- `link::is_service` meets its contract: its test is the definition's.
+-- Assumes nothing.
+use mathlib.Core.Path.{refl}
+use Rattle.link.specs.Link.{isService}
+use Rattle.link.proofs.is_service.Statement.{statement}
+use Rattle.link.proofs.is_service.Tie as tie
+
+returns : tie.Need-returns
+unfolding isService
+returns c = refl
+
+pub is-service-spec : {M : Type 1} → statement M
+is-service-spec = tie.close (tie.spec returns)

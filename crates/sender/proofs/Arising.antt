@@ -1,0 +1,61 @@
+-- Refusal 12 is given for exactly the senders that cannot arise: each sender that passes arises, by opening it and sealing its numbers from 0 on.
+-- Assumes nothing.
+use Prim.Native.Nat.{ℕ, zero, suc, _+_, _≤_, _<_}
+use native.Mathlib.Omega.{arith}
+use native.Mathlib.Numerals.{add-one}
+use mathlib.Core.Path.{_≡_, refl, sym, ap, subst, _∙_}
+use mathlib.Core.Logic.{_↔_}
+use mathlib.Core.Bool.{true}
+use mathlib.Core.List.{List, [], _∷_}
+use borrow.Author.Tests.{le-leb}
+use lib.ListN.{length, replicate}
+use Rattle.refusals.specs.Refusal.{first}
+use Rattle.refusals.specs.Call.{Answered}
+use Rattle.refusals.proofs.Calls.{done}
+use Rattle.keystreams.specs.Key.{prepared}
+use Rattle.keystreams.proofs.Keys.{whole-is-key, prepared-whole}
+use Rattle.numbering.specs.Numbering.{end}
+use Rattle.link.specs.declared.Link.{Link}
+use Rattle.link.specs.Link.{linkCanArise, linkOrder, linkOf}
+use Rattle.sender.specs.declared.Sender.{Sender}
+use Rattle.sender.specs.Sender.{newSender, afterFrame, openSenderCall, senderCanArise, sealCall, SenderArises, opened, sealed}
+use Rattle.sender.proofs.Sealing.{sender-says, seal-0}
+use Rattle.sender.proofs.Laws.{opened-can-arise, seal-done, sealed-can-arise}
+
+-- the sender of a link with this next number
+abbrev at : Link → ℕ → Sender
+at link next = record { link = link; next = next }
+
+-- a link of 16 octets that can arise is opened by itself
+module _ (link : Link) (good : linkCanArise link ≡ true) (sixteen : length (link .key) ≡ 16) where
+  first-arises : SenderArises (at link 0)
+  unfolding first linkOrder linkCanArise linkOf newSender
+  first-arises =
+      let whole : linkOf (link .key) (link .iov) (link .sapi) (link .direction) ≡ link =
+      λ i. record { key = prepared-whole (link .key) sixteen i; iov = link .iov; sapi = link .sapi; direction = link .direction } in
+      subst (λ (l : Link). SenderArises (newSender l)) whole
+      (opened (link .key) (link .iov) (link .sapi) (link .direction)
+      (done (openSenderCall (link .key) (link .iov) (link .sapi) (link .direction)) (simp (whole-is-key (link .key) sixteen, good))))
+
+  -- and from there every number up to 2^27 is reached
+  each-arises : (next : ℕ) → next ≤ end → SenderArises (at link next)
+  unfolding senderCanArise afterFrame
+  each-arises zero within = first-arises
+  each-arises (suc next) within =
+      let before : SenderArises (at link next) = each-arises next (omega arith) in
+      let fit : senderCanArise (at link next) ≡ true = simp (good, le-leb next end (omega arith)) in
+      subst (λ (n : ℕ). SenderArises (at link n)) (add-one next)
+      (sealed (0 ∷ []) (replicate 7 0) before
+      (done (sealCall (at link next) (0 ∷ []) (replicate 7 0))
+      (seal-0 (at link next) (0 ∷ []) (replicate 7 0) fit (λ empty. omega arith) (omega arith) (λ last. omega arith) (omega arith))))
+
+pub arises-can-arise : {sender : Sender} → SenderArises sender → senderCanArise sender ≡ true
+arises-can-arise (opened key iov sapi direction answered) = opened-can-arise key iov sapi direction answered
+arises-can-arise (sealed payload before {sender} arises answered) = sealed-can-arise (seal-done sender payload before answered)
+
+-- of all senders whose key has the 16 octets of its type
+pub sender-arises-iff : (sender : Sender) → length (sender .link .key) ≡ 16 → (senderCanArise sender ≡ true) ↔ SenderArises sender
+sender-arises-iff sender sixteen = (
+  (λ good. each-arises (sender .link) (sender-says sender good .0) sixteen (sender .next) (sender-says sender good .1)),
+  arises-can-arise,
+)
