@@ -76,6 +76,10 @@ module _ {Lent : Type 0} (call : Call Lent) where
           then-and-only-then (call .order) (and-left (distinct (call .order)) (inTable (call .order)) order) refusal (answered .refusal-is);
     }
 
+-- of two lists of numbers that are the same, the first numbers are
+pub head-is : {m n : ℕ} {ms ns : List ℕ} → m ∷ ms ≡ n ∷ ns → m ≡ n
+head-is same = cc
+
 -- a state made of another state is made by the same rule
 chosen : {A B : Type 0} (f : A → B) (test : Bool) (a b : A) → f (cond test a b) ≡ cond test (f a) (f b)
 chosen f true a b = refl

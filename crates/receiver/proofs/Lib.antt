@@ -1,0 +1,2 @@
+-- The laws of a receiver: what opening a frame answers, cause by cause, what callers use, and which receivers arise.
+pub mod Opening

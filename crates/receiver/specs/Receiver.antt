@@ -1,0 +1,71 @@
+-- The receiver: opening it, and opening a frame. The width w of the window is a number; the link's is `width`. Assumes nothing.
+use Prim.Native.Nat.{ℕ}
+use mathlib.Core.Bool.{Bool, not, _&&_, _||_}
+use mathlib.Core.List.{List, [], _∷_, _++_}
+use lib.Dec.{eqb, ltb}
+use lib.ListN.{length}
+use Rattle.refusals.specs.Refusal.{Row}
+use Rattle.refusals.specs.Call.{Call, Answered, front, makes}
+use Rattle.frames.specs.Frame.{headerOf, payloadOf, lookOrder}
+use Rattle.numbering.specs.Numbering.{start, canArise, candidate, candidateOrder, accepted}
+use Rattle.link.specs.declared.Link.{Link}
+use Rattle.link.specs.Link.{linkCanArise, linkOrder, noLink, linkOf, ciphered}
+use Rattle.receiver.specs.declared.Receiver.{Receiver}
+
+-- a new receiver on a link: it has accepted nothing
+unfoldable pub newReceiver : Link → Receiver
+newReceiver link = record { link = link; numbering = start }
+
+-- the receiver after accepting number n
+unfoldable pub afterAccepting : ℕ → Receiver → ℕ → Receiver
+afterAccepting w receiver n = record { link = receiver .link; numbering = accepted w (receiver .numbering) n }
+
+-- receiver::open_receiver
+abbrev pub openReceiverCall : List ℕ → ℕ → ℕ → ℕ → Call Receiver
+openReceiverCall key iov sapi direction = makes (linkOrder key sapi direction) (newReceiver noLink) (newReceiver (linkOf key iov sapi direction))
+
+-- a receiver that can arise: its link can, and its numbering can
+unfoldable pub receiverCanArise : ℕ → Receiver → Bool
+receiverCanArise w receiver = linkCanArise (receiver .link) && canArise w (receiver .numbering)
+
+-- a frame of this link, by its header
+unfoldable pub isOfLink : Link → List ℕ → Bool
+isOfLink link octets = eqb (headerOf octets .sapi) (link .sapi) && eqb (headerOf octets .direction) (link .direction)
+
+-- the full number that a receiver works out for a frame
+unfoldable pub candidateOf : ℕ → Receiver → List ℕ → ℕ
+candidateOf w receiver octets = candidate w (receiver .numbering .next) (headerOf octets .sent)
+
+-- the refusals of opening a frame, in their order: 12, 5, 6, 7, 8, 9, 10, 11, 4
+unfoldable pub openOrder : ℕ → Receiver → List ℕ → List ℕ → List Row
+openOrder w receiver octets output =
+    record { number = 12; holds = not (receiverCanArise w receiver) } ∷
+    (lookOrder octets
+    ++ (record { number = 8; holds = not (isOfLink (receiver .link) octets) } ∷
+    (candidateOrder w (receiver .numbering) (headerOf octets .sent)
+    ++ (record { number = 4; holds = ltb (length output) (length (payloadOf octets)) } ∷ []))))
+
+-- what an open call is lent: the receiver and an output
+pub record Opening : Type 0 where
+  pub receiver : Receiver
+  pub output : List ℕ
+
+-- receiver::open hands out the number, which is given with 11 and 4 too, and the payload's length, and puts the deciphered payload to the front of
+-- the output
+abbrev pub openCall : ℕ → Receiver → List ℕ → List ℕ → Call Opening
+openCall w receiver octets output = record {
+  order = openOrder w receiver octets output;
+  numbers = candidateOf w receiver octets ∷ length (payloadOf octets) ∷ [];
+  candidateWith = λ (refusal : ℕ). eqb refusal 11 || eqb refusal 4;
+  before = record { receiver = receiver; output = output };
+  after = record {
+    receiver = afterAccepting w receiver (candidateOf w receiver octets);
+    output = front (ciphered (receiver .link) (candidateOf w receiver octets) (payloadOf octets)) output;
+  };
+}
+
+-- the receivers that arise: one that was opened, and what opening a frame leaves of one that arises
+pub data ReceiverArises (w : ℕ) : Receiver → Type 0 where
+  opened : (key : List ℕ) (iov sapi direction : ℕ) {receiver : Receiver} → Answered (openReceiverCall key iov sapi direction) 0 [] receiver → ReceiverArises w receiver
+  accepted-frame : (octets before : List ℕ) {receiver later : Receiver} {number size : ℕ} {after : List ℕ} → ReceiverArises w receiver
+      → Answered (openCall w receiver octets before) 0 (number ∷ size ∷ []) (record { receiver = later; output = after }) → ReceiverArises w later
