@@ -8,7 +8,7 @@ use mathlib.Core.Bool.{true, false}
 use borrow.Author.Tests.{leb-true, leb-false, le-leb, lt-leb}
 use lib.Dec.{leb, lit<}
 use Rattle.refusals.proofs.Tests.{by-test}
-use Rattle.numbering.specs.Numbering.{end, InWindow, Candidate, firstFrom, candidate, isBelow0, isPastEnd, ByThePaper}
+use Rattle.numbering.specs.Numbering.{end, InWindow, Candidate, firstFrom, lowest, candidate, isBelow0, isPastEnd, ByThePaper}
 
 -- n is N modulo 512, and one of the 512 numbers from `low` on
 record IsFirst (low N n : ℕ) : Type 0 where
@@ -29,46 +29,30 @@ is-first low N sent =
     rw next (record { on-air = omega arith; not-below = omega arith; not-above = omega arith }))
 
 module _ (w : ℕ) (narrow : w ≤ 512) (v N : ℕ) (sent : N < 512) where
-  -- what is known of the candidate, and of the candidate with 512 added
-  lowest : IsFirst (v - w) N (candidate w v N)
+  -- what is known of the candidate
+  is-lowest : IsFirst (lowest w v) N (candidate w v N)
   unfolding candidate
-  lowest = is-first (v - w) N sent
-
-  raised : IsFirst (v + (512 - w)) N (firstFrom (v + (512 - w)) N)
-  raised = is-first (v + (512 - w)) N sent
-
-  -- the raised candidate is below 512 where the candidate is below 0, and else it is the candidate with 512 added
-  pub raised-below : firstFrom (v + (512 - w)) N < 512 → isBelow0 w v N ≡ true
-  unfolding isBelow0
-  raised-below below = le-leb (v + 512) (candidate w v N + w) (omega (arith, lowest, raised))
-
-  module _ (started : 512 ≤ firstFrom (v + (512 - w)) N) where
-    pub raised-not-below : isBelow0 w v N ≡ false
-    unfolding isBelow0
-    raised-not-below = lt-leb (v + 512) (candidate w v N + w) (omega (arith, lowest, raised))
-
-    pub raised-candidate : firstFrom (v + (512 - w)) N - 512 ≡ candidate w v N
-    raised-candidate = omega (arith, lowest, raised)
+  is-lowest = is-first (lowest w v) N sent
 
   -- where it is not below 0, the candidate is in the window
   pub in-window : isBelow0 w v N ≡ false → InWindow w v (candidate w v N)
   unfolding isBelow0
   in-window started = record {
-    not-below = omega (arith, lowest);
+    not-below = omega (arith, is-lowest);
     not-above = leb-false (v + 512) (candidate w v N + w) started;
   }
 
   is-candidate : isBelow0 w v N ≡ false → Candidate w v N (candidate w v N)
-  is-candidate started = record { on-air = lowest .on-air; in-window = in-window started }
+  is-candidate started = record { on-air = is-lowest .on-air; in-window = in-window started }
 
   -- a number of the window that is N modulo 512 is the candidate
   one-candidate : {n : ℕ} → Candidate w v N n → n ≡ candidate w v N
-  one-candidate c = omega (arith, lowest)
+  one-candidate c = omega (arith, is-lowest)
 
   -- a candidate of a later turn than the first is not below 0
   far-not-below : end ≤ candidate w v N → isBelow0 w v N ≡ false
   unfolding isBelow0 end
-  far-not-below far = lt-leb (v + 512) (candidate w v N + w) (omega (arith, lowest))
+  far-not-below far = lt-leb (v + 512) (candidate w v N + w) (omega (arith, is-lowest))
 
   no-candidate : isBelow0 w v N ≡ true → (n : ℕ) → Candidate w v N n → ⊥
   unfolding isBelow0
@@ -76,7 +60,7 @@ module _ (w : ℕ) (narrow : w ≤ 512) (v N : ℕ) (sent : N < 512) where
 
 -- document 01: the candidate is the one number with n mod 512 = N and V - w <= n <= V + 511 - w
 pub by-the-paper : (w : ℕ) → w ≤ 512 → ByThePaper w
-unfolding isPastEnd end
+unfolding isPastEnd
 by-the-paper w narrow = record {
   candidate-is = λ v N n sent started. (
     one-candidate w narrow v N sent,
@@ -95,7 +79,28 @@ by-the-paper w narrow = record {
   );
 }
 
--- a number of the window is worked out from its nine bits
+-- ---- the candidate with 512 added, which is a number even where the candidate is below 0
+
+module _ (w : ℕ) (narrow : w ≤ 512) (v N : ℕ) (sent : N < 512) where
+  is-raised : IsFirst (v + (512 - w)) N (firstFrom (v + (512 - w)) N)
+  is-raised = is-first (v + (512 - w)) N sent
+
+  -- it is below 512 where the candidate is below 0
+  pub raised-below : firstFrom (v + (512 - w)) N < 512 → isBelow0 w v N ≡ true
+  unfolding isBelow0
+  raised-below below = le-leb (v + 512) (candidate w v N + w) (omega (arith, is-lowest w narrow v N sent, is-raised))
+
+  -- and else it is the candidate and 512
+  module _ (started : 512 ≤ firstFrom (v + (512 - w)) N) where
+    pub raised-not-below : isBelow0 w v N ≡ false
+    unfolding isBelow0
+    raised-not-below = lt-leb (v + 512) (candidate w v N + w) (omega (arith, is-lowest w narrow v N sent, is-raised))
+
+    pub raised-candidate : firstFrom (v + (512 - w)) N - 512 ≡ candidate w v N
+    raised-candidate = omega (arith, is-lowest w narrow v N sent, is-raised)
+
+-- ---- a number of the window is worked out from its nine bits
+
 module _ (w : ℕ) (narrow : w ≤ 512) (v n : ℕ) where
   sent : n % 512 < 512
   sent = mod-lt n (lit< tt)

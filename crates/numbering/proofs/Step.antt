@@ -1,12 +1,16 @@
 -- What a step of the numbering answers, cause by cause, for every width.
 -- Assumes nothing.
 use Prim.Native.Nat.{ℕ, _≤_, _<_}
+use native.Mathlib.Omega.{arith}
 use mathlib.Core.Path.{_≡_, refl, sym, ap, _∙_}
 use mathlib.Core.Bool.{true, false}
 use mathlib.Core.List.{List, [], _∷_}
-use borrow.Author.Tests.{le-ltb, lt-ltb, ne-eqb}
-use Rattle.refusals.specs.Refusal.{first}
+use borrow.Author.Tests.{le-ltb, lt-ltb, ltb-false, ne-eqb, not-false}
+use lib.Dec.{T}
+use Rattle.refusals.specs.Refusal.{first, rowAt}
 use Rattle.refusals.specs.Call.{Answered, handedOut}
+use Rattle.refusals.proofs.Orders.{isOrder}
+use Rattle.refusals.proofs.Calls.{determined}
 use Rattle.numbering.specs.declared.Numbering.{Numbering}
 use Rattle.numbering.specs.Numbering.{canArise, isAccepted, candidate, isBelow0, isPastEnd, accepted, candidateOrder, numberOrder, numberCall}
 
@@ -53,3 +57,28 @@ module _ (w : ℕ) (state : Numbering) (N : ℕ) where
     pub candidate-decides : N ≤ 511 → first (numberOrder w state N) ≡ first (candidateOrder w state N)
     unfolding first numberOrder
     candidate-decides sent = simp (can, le-ltb _ _ sent)
+
+  -- the order is one, so that both promises hold of the call
+  pub number-is-order : T (isOrder (numberOrder w state N))
+  unfolding numberOrder candidateOrder
+  number-is-order = tt
+
+-- what a step that accepts has passed
+pub record Passed (w : ℕ) (state : Numbering) (N : ℕ) : Type 0 where
+  pub can : canArise w state ≡ true
+  pub sent : N < 512
+  pub started : isBelow0 w (state .next) N ≡ false
+  pub ended : isPastEnd w (state .next) N ≡ false
+  pub anew : isAccepted state (candidate w (state .next) N) ≡ false
+
+pub step-passed : (w : ℕ) (state : Numbering) (N : ℕ) {numbers : List ℕ} {after : Numbering} → Answered (numberCall w state N) 0 numbers after → Passed w state N
+unfolding numberOrder candidateOrder rowAt
+step-passed w state N call =
+    let passed : (k : ℕ) → rowAt (numberOrder w state N) k .holds ≡ false = determined (numberCall w state N) (number-is-order w state N) .refuses call .none .0 refl in
+    record {
+      can = not-false _ (passed 0);
+      sent = omega (arith, ltb-false 511 N (passed 1));
+      started = passed 2;
+      ended = passed 3;
+      anew = passed 4;
+    }

@@ -33,7 +33,7 @@ numberingOf v marks = record { next = v; marks = marks }
 abbrev pub start : Numbering
 start = numberingOf 0 0
 
--- bit k of the marks
+-- mark k of the marks, from the lowest bit on
 unfoldable pub mark : ℕ → ℕ → ℕ
 mark marks k = marks / 2 ^ k % 2
 
@@ -66,11 +66,15 @@ firstFrom low N =
     let turn = low / 512 * 512 in
     cond (leb low (turn + N)) (turn + N) (turn + 512 + N)
 
--- the candidate as a number, where it is not below 0: the first from V - w on, and from 0 on where V is less than w
-unfoldable pub candidate : ℕ → ℕ → ℕ → ℕ
-candidate w v N = firstFrom (v - w) N
+-- the lowest number of the window: V - w, or 0 where that is below 0
+abbrev pub lowest : ℕ → ℕ → ℕ
+lowest w v = v - w
 
--- the candidate is below 0: the first from 0 on is past the window
+-- the candidate, where it is not below 0: the first number of the window that is N modulo 512
+unfoldable pub candidate : ℕ → ℕ → ℕ → ℕ
+candidate w v N = firstFrom (lowest w v) N
+
+-- the candidate is below 0: the first such number from 0 on is past the window
 unfoldable pub isBelow0 : ℕ → ℕ → ℕ → Bool
 isBelow0 w v N = leb (v + 512) (candidate w v N + w)
 

@@ -27,7 +27,6 @@ unfolding end
 add-after c = search needs
 
 sub-gap : tie.Need-sub-gap
-unfolding end
 sub-gap c = search needs
 
 returns-2 : tie.Need-returns-2
