@@ -1,35 +1,43 @@
--- A frame with the full number n arrives, n in the window of a good state: the one outcome that the contract allows, for every width up to 512.
+-- A frame with the full number n arrives, n in the window: the one answer that the contract allows, for every width up to 512.
 -- Assumes nothing.
 use Prim.Native.Nat.{ℕ, _%_, _≤_, _<_}
 use native.Mathlib.Omega.{arith}
-use mathlib.Core.Path.{_≡_, refl, sym, ap, _∙_}
+use mathlib.Core.Path.{_≡_, refl, sym, ap, ap₂, _∙_}
 use mathlib.Core.Bool.{true, false}
+use mathlib.Core.List.{List, [], _∷_}
+use borrow.Author.Tests.{eqb-false}
+use Rattle.refusals.specs.Refusal.{first}
+use Rattle.refusals.specs.Call.{Answered}
 use Rattle.numbering.specs.declared.Numbering.{Numbering}
-use Rattle.numbering.specs.Numbering.{raised, candidate, isRepeat, isGood, accepted, end, NumberCall}
-use Rattle.numbering.specs.Run.{MayArrive}
-use Rattle.numbering.proofs.Candidate.{raised-of, candidate-of}
-use Rattle.numbering.proofs.Step.{call-of, step-0, step-11}
+use Rattle.numbering.specs.Numbering.{end, InWindow, candidate, isAccepted, canArise, accepted, candidateOrder, numberCall}
+use Rattle.numbering.proofs.Candidate.{candidate-of, not-below-0, not-past-end}
+use Rattle.numbering.proofs.Step.{step-refused, candidate-11, candidate-0, candidate-decides}
 
-module _ (w : ℕ) (narrow : w ≤ 512) (state : Numbering) (good : isGood w state ≡ true) (n : ℕ) (may : MayArrive w (state .next) n) where
+module _ (w : ℕ) (narrow : w ≤ 512) (state : Numbering) (n : ℕ) (inside : InWindow w (state .next) n) (before-end : n < end) where
   number-is : candidate w (state .next) (n % 512) ≡ n
-  number-is = candidate-of w narrow (state .next) (n % 512) n refl (may .not-below) (may .not-above)
+  number-is = candidate-of w narrow (state .next) n inside
 
-  started : 512 ≤ raised w (state .next) (n % 512)
-  started = omega (arith, raised-of w narrow (state .next) (n % 512) n refl (may .not-below) (may .not-above))
+  -- which cause of the candidate holds first: of a number that was accepted 11, and of any other none
+  pub candidate-repeat : isAccepted state n ≡ true → first (candidateOrder w state (n % 512)) ≡ 11
+  candidate-repeat again =
+      candidate-11 w state (n % 512) (not-below-0 w narrow (state .next) n inside) (not-past-end w narrow (state .next) n inside before-end)
+      (ap (isAccepted state) number-is ∙ again)
 
-  ended : candidate w (state .next) (n % 512) < end
-  ended = omega (arith, number-is, may .before-end)
+  pub candidate-new : isAccepted state n ≡ false → first (candidateOrder w state (n % 512)) ≡ 0
+  candidate-new anew =
+      candidate-0 w state (n % 512) (not-below-0 w narrow (state .next) n inside) (not-past-end w narrow (state .next) n inside before-end)
+      (ap (isAccepted state) number-is ∙ anew)
 
-  -- a number that is marked is a repeat
-  pub arrival-repeat : isRepeat state n ≡ true → NumberCall w state (n % 512) 11 n state
-  arrival-repeat again =
-      call-of w state (n % 512) 11
-      (step-11 w state (n % 512) good (omega arith) started ended (ap (isRepeat state) number-is ∙ again))
-      (refl, (sym number-is, refl))
+  -- and what the step then answers
+  module _ (can : canArise w state ≡ true) where
+    pub arrival-repeat : isAccepted state n ≡ true → Answered (numberCall w state (n % 512)) 11 (n ∷ []) state
+    arrival-repeat again =
+        step-refused w state (n % 512) 11 (candidate-decides w state (n % 512) can (omega arith) ∙ candidate-repeat again) (eqb-false 11 0 refl) refl
+        (refl, (sym number-is, refl))
 
-  -- any other is accepted
-  pub arrival-accepted : isRepeat state n ≡ false → NumberCall w state (n % 512) 0 n (accepted w state n)
-  arrival-accepted anew =
-      call-of w state (n % 512) 0
-      (step-0 w state (n % 512) good (omega arith) started ended (ap (isRepeat state) number-is ∙ anew))
-      (refl, (sym number-is, ap (accepted w state) (sym number-is)))
+    pub arrival-accepted : isAccepted state n ≡ false → Answered (numberCall w state (n % 512)) 0 (n ∷ []) (accepted w state n)
+    arrival-accepted anew = record {
+      refusal-is = sym (candidate-decides w state (n % 512) can (omega arith) ∙ candidate-new anew);
+      numbers-are = ap (λ (m : ℕ). m ∷ []) (sym number-is);
+      lent-is = ap (accepted w state) (sym number-is);
+    }

@@ -1,12 +1,10 @@
--- The laws of the marks, of the candidate and of a step; what the contract determines; which states arise; and whole runs.
+-- The laws of the marks, of the state and of the candidate; what a step answers; which states arise; and what a state means.
 pub mod Masks
 pub mod State
-pub mod Step
 pub mod Candidate
-pub mod Determined
+pub mod Step
 pub mod Arrival
-pub mod Histories
 pub mod Marks
-pub mod Good
-pub mod Runs
+pub mod Arising
+pub mod Means
 pub mod Examples

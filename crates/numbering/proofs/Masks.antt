@@ -9,6 +9,7 @@ use mathlib.Core.Path.{_≡_, refl, sym, ap, subst, _∙_}
 use mathlib.Core.Logic.{_⊎_, inl, inr}
 use mathlib.Core.Bool.{not}
 use borrow.Author.Tests.{ne-eqb}
+use lib.Arith.{bin-ind}
 use lib.Bits.{bitAnd, bitOr, and-high, or-shifted, or-shr, or-mod, or-lt, or-zero-r}
 use lib.Dec.{eqb, lit<}
 use lib.Pow.{pow-pos, pow-lt, pow-add, shl-exact, shl-lt, shl-shr, shr-shr, field, mod-mod-pow}
@@ -43,6 +44,23 @@ mark-zero m = ap (λ (x : ℕ). x % 2) (div-one m)
 pub mark-beyond : (m k : ℕ) → m < 2 ^ k → mark m k ≡ 0
 unfolding mark
 mark-beyond m k l = ap (λ (x : ℕ). x % 2) (div-eq-of-lt l)
+
+-- a number above 0 has a mark, and one that is not below 2^j has a mark from place j on
+some-mark : (m : ℕ) → 0 < m → (k : ℕ) × (mark m k ≡ 1)
+unfolding mark
+some-mark = bin-ind (λ (m : ℕ). 0 < m → (k : ℕ) × (mark m k ≡ 1)) (λ some. absurd (omega arith)) (λ m half some. go m half some (ℕ-discrete (m % 2) 1))
+  where
+    go : (m : ℕ) → (0 < m / 2 → (k : ℕ) × (mark (m / 2) k ≡ 1)) → 0 < m → Dec (m % 2 ≡ 1) → (k : ℕ) × (mark m k ≡ 1)
+    go m half some (yes odd) = (0, mark-zero m ∙ odd)
+    go m half some (no even) =
+        let (k, set) = half (omega arith) in
+        (1 + k, ap (λ (x : ℕ). x % 2) (sym (shr-shr m 1 k)) ∙ set)
+
+pub mark-above : (m j : ℕ) → 2 ^ j ≤ m → (k : ℕ) × (j ≤ k) × (mark m k ≡ 1)
+unfolding mark
+mark-above m j above =
+    let (k, set) = some-mark (m / 2 ^ j) (le-div-iff-mul-le {x = 1} {y = m} (pow-pos j) .1 (rw one-mul above)) in
+    (j + k, omega arith, ap (λ (x : ℕ). x % 2) (sym (shr-shr m j k)) ∙ set)
 
 -- the mask of mark k is a 1, shifted by k in a word of b bits
 pub one-shifted : (b k : ℕ) → k < b → 1 * 2 ^ k % 2 ^ b ≡ 2 ^ k

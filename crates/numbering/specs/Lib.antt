@@ -1,3 +1,2 @@
 pub mod Numbering
 pub mod History
-pub mod Run

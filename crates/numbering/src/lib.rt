@@ -1,9 +1,9 @@
 // The numbering of a receiver: which full number a frame has, of which nine bits are on the air.
 ghost use mathlib.Core.Path.{_≡_};
-ghost use mathlib.Core.Bool.{true, false};
+ghost use mathlib.Core.List.{[], _∷_};
 ghost use Prim.Native.Nat.{_+_, _-_, _^_, _≤_, _<_};
-ghost use lib.Dec.{T};
-ghost use Rattle.numbering.specs.Numbering.{NumberCall, isGood, isRepeat, raised as Numbering·raised, accepted as Numbering·accepted, start as Numbering·start};
+ghost use Rattle.refusals.specs.Call.{Answered};
+ghost use Rattle.numbering.specs.Numbering.{width, end, canArise, isAccepted, firstFrom, numberCall, accepted as Numbering·accepted, start as Numbering·start};
 
 // How many numbers behind the next one may still come late.
 pub const WIDTH: u32 = 32;
@@ -25,8 +25,8 @@ pub struct Numbered {
 }
 
 // A state that can arise.
-pub fn is_good(numbering: Numbering) -> bool
-    ensures { λ r. ⌜ r ≡ isGood 32 numbering ⌝ }
+pub fn can_arise(numbering: Numbering) -> bool
+    ensures { λ r. ⌜ r ≡ canArise width numbering ⌝ }
 {
     let next = numbering.next;
     let marks = numbering.marks;
@@ -44,10 +44,10 @@ pub fn is_good(numbering: Numbering) -> bool
     marks % 2 == 1
 }
 
-// The candidate with 512 added: the first number from V - 32 + 512 on that is `sent` modulo 512.
+// The candidate with 512 added, so that it is a number even where the candidate is below 0.
 fn raised(next: u32, sent: u32) -> u32
-    requires { ⌜ (next ≤ 134217728) × (sent < 512) ⌝ }
-    ensures { λ r. ⌜ r ≡ Numbering·raised 32 next sent ⌝ }
+    requires { ⌜ (next ≤ end) × (sent < 512) ⌝ }
+    ensures { λ r. ⌜ r ≡ firstFrom (next + (512 - width)) sent ⌝ }
 {
     let low = next + (512 - WIDTH);
     low + (sent + (512 - low % 512)) % 512
@@ -55,16 +55,16 @@ fn raised(next: u32, sent: u32) -> u32
 
 // The mask of a number below V: a 1 at bit V - 1 - n.
 fn mask(next: u32, number: u32) -> u32
-    requires { ⌜ (number < next) × (next ≤ number + 32) ⌝ }
+    requires { ⌜ (number < next) × (next ≤ number + width) ⌝ }
     ensures { λ r. ⌜ r ≡ 2 ^ (next - 1 - number) ⌝ }
 {
     1 << (next - 1 - number)
 }
 
 // A number below V that has its mark.
-fn is_repeat(numbering: Numbering, number: u32) -> bool
-    requires { ⌜ numbering .next ≤ number + 32 ⌝ }
-    ensures { λ r. ⌜ r ≡ isRepeat numbering number ⌝ }
+fn is_accepted(numbering: Numbering, number: u32) -> bool
+    requires { ⌜ numbering .next ≤ number + width ⌝ }
+    ensures { λ r. ⌜ r ≡ isAccepted numbering number ⌝ }
 {
     let next = numbering.next;
     let marks = numbering.marks;
@@ -74,10 +74,10 @@ fn is_repeat(numbering: Numbering, number: u32) -> bool
     marks & mask(next, number) != 0
 }
 
-// The state after accepting a number. A gap of 32 or more leaves the mark of the new number alone.
+// The state after accepting a number. A gap as long as the window leaves the mark of the new number alone.
 fn accepted(numbering: Numbering, number: u32) -> Numbering
-    requires { ⌜ (number < 134217728) × (numbering .next ≤ number + 32) ⌝ }
-    ensures { λ r. ⌜ r ≡ Numbering·accepted 32 numbering number ⌝ }
+    requires { ⌜ (number < end) × (numbering .next ≤ number + width) ⌝ }
+    ensures { λ r. ⌜ r ≡ Numbering·accepted width numbering number ⌝ }
 {
     let next = numbering.next;
     let marks = numbering.marks;
@@ -120,9 +120,9 @@ pub fn start() -> Numbering
 
 // One step: a frame with `sent` on the air is numbered, and accepted or refused.
 pub fn number(numbering: Numbering, sent: u32) -> Numbered
-    ensures { λ r. ⌜ NumberCall 32 numbering sent (r .refusal) (r .number) (r .numbering) ⌝ }
+    ensures { λ r. ⌜ Answered (numberCall width numbering sent) (r .refusal) (r .number ∷ []) (r .numbering) ⌝ }
 {
-    if !is_good(numbering) {
+    if !can_arise(numbering) {
         return refused(numbering, refusals::STATE, 0);
     }
     if 511 < sent {
@@ -136,7 +136,7 @@ pub fn number(numbering: Numbering, sent: u32) -> Numbered
     if END <= number {
         return refused(numbering, refusals::END, 0);
     }
-    if is_repeat(numbering, number) {
+    if is_accepted(numbering, number) {
         return refused(numbering, refusals::REPEAT, number);
     }
     Numbered {
