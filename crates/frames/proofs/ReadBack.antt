@@ -1,6 +1,6 @@
 -- The layout of a frame: what was written is read back, and octets that a look does not refuse are the frame of what they say.
 -- Assumes nothing.
-use Prim.Native.Nat.{ℕ, _+_, _*_, _/_, _%_, _≤_}
+use Prim.Native.Nat.{ℕ, zero, suc, _+_, _*_, _/_, _%_, _≤_}
 use native.Mathlib.Omega.{arith}
 use mathlib.Core.Path.{_≡_, refl, sym, _∙_}
 use mathlib.Core.List.{List, _∷_}
@@ -46,6 +46,17 @@ module _ (header : Header) (payload : List ℕ) where
 
     pub frame-looked : 1 ≤ length payload → length payload ≤ 1520 → first (lookOrder (frame header payload)) ≡ 0
     frame-looked some most = framed-looked (frame header payload) (frame-framed some most)
+
+-- what is written is octets
+pub frame-octets : (header : Header) (payload : List ℕ) → InRange header → length payload ≤ 1520 → AreOctets payload → AreOctets (frame header payload)
+unfolding frame headerOctets pair
+frame-octets header payload range most each zero = omega arith
+frame-octets header payload range most each (suc zero) = omega arith
+frame-octets header payload range most each (suc (suc zero)) = omega arith
+frame-octets header payload range most each (suc (suc (suc zero))) = omega (arith, range)
+frame-octets header payload range most each (suc (suc (suc (suc zero)))) = omega (arith, range)
+frame-octets header payload range most each (suc (suc (suc (suc (suc zero))))) = omega arith
+frame-octets header payload range most each (suc (suc (suc (suc (suc (suc i)))))) = each i
 
 -- the octets of a header, one by one, and those after them
 six-and-more : (octets : List ℕ) → 6 ≤ length octets

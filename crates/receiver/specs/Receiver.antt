@@ -6,7 +6,7 @@ use lib.Dec.{eqb, ltb}
 use lib.ListN.{length}
 use Rattle.refusals.specs.Refusal.{Row}
 use Rattle.refusals.specs.Call.{Call, Answered, front, makes}
-use Rattle.frames.specs.Frame.{headerOf, payloadOf, lookOrder}
+use Rattle.frames.specs.Frame.{AreOctets, headerOf, payloadOf, lookOrder}
 use Rattle.numbering.specs.Numbering.{start, canArise, candidate, candidateOrder, accepted}
 use Rattle.link.specs.declared.Link.{Link}
 use Rattle.link.specs.Link.{linkCanArise, linkOrder, noLink, linkOf, ciphered}
@@ -67,5 +67,5 @@ openCall w receiver octets output = record {
 -- the receivers that arise: one that was opened, and what opening a frame leaves of one that arises
 pub data ReceiverArises (w : ℕ) : Receiver → Type 0 where
   opened : (key : List ℕ) (iov sapi direction : ℕ) {receiver : Receiver} → Answered (openReceiverCall key iov sapi direction) 0 [] receiver → ReceiverArises w receiver
-  accepted-frame : (octets before : List ℕ) {receiver later : Receiver} {number size : ℕ} {after : List ℕ} → ReceiverArises w receiver
+  accepted-frame : (octets before : List ℕ) {receiver later : Receiver} {number size : ℕ} {after : List ℕ} → AreOctets octets → ReceiverArises w receiver
       → Answered (openCall w receiver octets before) 0 (number ∷ size ∷ []) (record { receiver = later; output = after }) → ReceiverArises w later
