@@ -7,7 +7,7 @@ use mathlib.Core.List.{List, [], _∷_}
 use borrow.Author.Tests.{ne-eqb}
 use lib.Dec.{T, eqb, leb, leb→le}
 use Rattle.refusals.specs.Refusal.{Row, first, ThenAndOnlyThen, lastRefusal}
-use Rattle.refusals.specs.Call.{Call, PublicCall, call, function, given, Always, All, makes, Answered, Answers, Determined, zeros, handedOut}
+use Rattle.refusals.specs.Call.{Call, PublicCall, call, function, given, Always, All, makes, Outcome, outcome, Answered, Answers, Determined, zeros, handedOut}
 use Rattle.refusals.proofs.Laws.{then-and-only-then}
 use Rattle.refusals.proofs.Orders.{distinct, inTable, isOrder}
 use Rattle.refusals.proofs.Tests.{and-left, and-right, by-test}
@@ -40,6 +40,13 @@ module _ {Lent : Type 0} (call : Call Lent) where
           answered .numbers-are ∙ ap (handedOut call) same ∙ sym (again .numbers-are),
           answered .lent-is ∙ ap (λ (r : ℕ). cond (eqb r 0) (call .after) (call .before)) same ∙ sym (again .lent-is),
         )
+
+    -- namely the outcome
+    pub is-outcome : record { refusal = refusal; numbers = numbers; lent = lent } ≡ outcome call
+    unfolding outcome
+    is-outcome =
+        let same = one-outcome (record { refusal-is = refl; numbers-are = refl; lent-is = refl }) in
+        λ i. record { refusal = same .0 i; numbers = same .1 i; lent = same .2 i }
 
     -- where no cause holds, nothing is refused, and everything is as the call leaves it
     pub answered-done : first (call .order) ≡ 0 → (refusal ≡ 0) × (numbers ≡ call .numbers) × (lent ≡ call .after)

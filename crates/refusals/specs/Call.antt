@@ -62,6 +62,17 @@ zeros candidate (number ∷ rest) = cond candidate number 0 ∷ map (λ (other :
 abbrev pub handedOut : {Lent : Type 0} → Call Lent → ℕ → List ℕ
 handedOut call refusal = cond (eqb refusal 0) (call .numbers) (zeros (call .candidateWith refusal) (call .numbers))
 
+-- the one outcome of a call, as a value
+pub record Outcome (Lent : Type 0) : Type 0 where
+  pub refusal : ℕ
+  pub numbers : List ℕ
+  pub lent : Lent
+
+unfoldable pub outcome : {Lent : Type 0} → Call Lent → Outcome Lent
+outcome call =
+    let refusal = first (call .order) in
+    record { refusal = refusal; numbers = handedOut call refusal; lent = cond (eqb refusal 0) (call .after) (call .before) }
+
 -- a call answered so: the refusal is the first cause that holds, or 0; the numbers; and what it was lent, as it then is
 pub record Answered {Lent : Type 0} (call : Call Lent) (refusal : ℕ) (numbers : List ℕ) (lent : Lent) : Type 0 where
   pub refusal-is : refusal ≡ first (call .order)
