@@ -8,16 +8,14 @@ use native.Mathlib.Nat.{mod-eq-of-lt, pow-suc, mod-lt, mul-assoc, le-min, min-le
 use mathlib.Core.Path.{_≡_, refl, sym, ap, ap₂, subst, _∙_}
 use mathlib.Core.Logic.{_↔_, _⊎_, inl, inr}
 use mathlib.Core.Bool.{true, false, true≢false, false≢true}
-use mathlib.Core.List.{List}
 use borrow.Author.Tests.{leb-false, eq-eqb}
 use lib.Arith.{lt-one}
 use lib.Bits.{bitOr}
 use lib.Dec.{lit<}
 use lib.Pow.{pow-pos, pow-mono, pow-lt, pow-add}
-use Rattle.refusals.specs.Call.{Answered}
 use Rattle.refusals.proofs.Tests.{by-test}
 use Rattle.numbering.specs.declared.Numbering.{Numbering}
-use Rattle.numbering.specs.Numbering.{end, marksOf, numberingOf, start, mark, isAccepted, accepted, InWindow, candidate, isPastEnd, canArise, CannotArise, next-past-end, mark-at-0, last-unmarked, mark-below-0, mark-outside, numberCall, Arises, at-start, by-step}
+use Rattle.numbering.specs.Numbering.{end, marksOf, numberingOf, start, mark, isAccepted, accepted, InWindow, candidate, isPastEnd, canArise, CannotArise, next-past-end, mark-at-0, last-unmarked, mark-below-0, mark-outside, Arises, at-start, by-step}
 use Rattle.numbering.proofs.Masks.{mark-cases, mark-zero, mark-beyond, mark-above, mark-of-new, mark-of-old, mark-set, mark-stays, new-within, late-within, moved-out}
 use Rattle.numbering.proofs.State.{marks-of, numbering-of, CanArise, can-arise-says, says-can-arise, accepted-new, accepted-late, new-not-accepted, old-accepted}
 use Rattle.numbering.proofs.Step.{Passed, step-passed}

@@ -12,7 +12,7 @@ use Rattle.refusals.specs.Call.{Answered, handedOut}
 use Rattle.refusals.proofs.Orders.{isOrder}
 use Rattle.refusals.proofs.Calls.{determined}
 use Rattle.numbering.specs.declared.Numbering.{Numbering}
-use Rattle.numbering.specs.Numbering.{canArise, isAccepted, candidate, isBelow0, isPastEnd, accepted, candidateOrder, numberOrder, numberCall}
+use Rattle.numbering.specs.Numbering.{canArise, isAccepted, candidate, isBelow0, isPastEnd, candidateOrder, numberOrder, numberCall}
 
 module _ (w : ℕ) (state : Numbering) (N : ℕ) where
   -- where the first cause that holds has the number k, these are the refusal, the number and the state
