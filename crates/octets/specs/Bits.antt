@@ -22,6 +22,10 @@ bitOf octets i = bitAt 8 (getD octets (i / 8) 0) (i % 8)
 unfoldable pub part : (ℕ → ℕ) → ℕ → ℕ → ℕ → ℕ
 part bit start length i = cond (ltb i length) (bit (start + i)) 0
 
+-- octets::octet_or_zero: the octet at a place, or 0 past the end
+abbrev pub octetOrZero : List ℕ → ℕ → ℕ
+octetOrZero octets place = getD octets place 0
+
 -- the number that the first n bits of a bit string write, the first bit highest
 unfoldable pub number : (ℕ → ℕ) → ℕ → ℕ
 number bit zero = 0
@@ -31,7 +35,7 @@ number bit (suc n) = number bit n * 2 + bit n
 unfoldable pub octet : (ℕ → ℕ) → ℕ → ℕ
 octet bit k = number (λ j. bit (k * 8 + j)) 8
 
--- an octet with its first n bits, and zero for each bit after them
+-- octets::first_bits: an octet with its first n bits, and zero for each bit after them
 abbrev pub firstBits : ℕ → ℕ → ℕ
 firstBits whole n = octet (part (bitAt 8 whole) 0 n) 0
 
@@ -40,7 +44,7 @@ unfoldable pub listed : (ℕ → ℕ) → ℕ → List ℕ
 listed f zero = []
 listed f (suc n) = listed f n ++ (f n ∷ [])
 
--- how many octets hold n bits
+-- octets::size: how many octets hold n bits
 unfoldable pub size : ℕ → ℕ
 size n = (n + 7) / 8
 

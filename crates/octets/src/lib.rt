@@ -2,8 +2,7 @@
 ghost use mathlib.Core.Path.{_≡_};
 ghost use mathlib.Core.List.{[]};
 ghost use Prim.Native.Nat.{ℕ, _+_, _^_, _<_};
-ghost use lib.ListN.{getD};
-ghost use Rattle.octets.specs.Bits.{bitOf, number, firstBits, size as Bits·size};
+ghost use Rattle.octets.specs.Bits.{bitOf, number, firstBits, octetOrZero, size as Bits·size};
 ghost use Rattle.refusals.specs.Call.{Answered};
 ghost use Rattle.octets.specs.Cut.{cutCall};
 ghost use Rattle.octets.specs.Xor.{xorCall};
@@ -28,7 +27,7 @@ pub fn first_bits(whole: u8, count: usize) -> u8
 
 // The octet at a place of the source, or 0 past its end.
 pub fn octet_or_zero(source: &[u8], place: usize) -> u8
-    ensures { λ r. ⌜ r ≡ getD (now (source .entry)) place 0 ⌝ }
+    ensures { λ r. ⌜ r ≡ octetOrZero (now (source .entry)) place ⌝ }
 {
     if place < source.len() {
         source[place]

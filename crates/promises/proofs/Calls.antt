@@ -1,28 +1,54 @@
--- What promises 1 and 2 ask of each public call holds of all of them. Assumes nothing.
+-- The order of every public call is one, and so promises 1 and 2 hold of all of them. Assumes nothing.
 use mathlib.Core.List.{List, [], _∷_}
-use Rattle.promises.specs.PublicCall.{PublicCall, All}
+use lib.Dec.{T}
+use Rattle.refusals.specs.Call.{Call, Answers, Determined, Always, All}
+use Rattle.refusals.proofs.Orders.{isOrder}
+use Rattle.refusals.proofs.Calls.{answers, determined, of-all}
+use Rattle.octets.specs.Cut.{cutOrder}
+use Rattle.octets.specs.Xor.{xorOrder}
+use Rattle.kasumi.specs.Kasumi.{kasumiOrder}
+use Rattle.kgcore.specs.Kgcore.{kgcoreOrder}
+use Rattle.keystreams.specs.Key.{keyOrder}
+use Rattle.keystreams.specs.A5.{a5Order}
+use Rattle.keystreams.specs.Gea4.{gea4Order}
+use Rattle.numbering.specs.Numbering.{candidateOrder, numberOrder}
+use Rattle.frames.specs.Frame.{lookOrder, headerOrder}
+use Rattle.link.specs.Link.{linkOrder, cipherOrder}
+use Rattle.sender.specs.Sender.{sealOrder}
+use Rattle.receiver.specs.Receiver.{openOrder}
 use Rattle.promises.specs.Calls.{publicCalls}
-use Rattle.promises.proofs.Forms.{Both, function-both}
-use Rattle.promises.proofs.CiphersAndLink.{cut-both, kasumi-both, kgcore-both, gsm-both, ecsd-both, gea4-both, number-both, look-refusal-both, put-header-both, open-sender-both, open-receiver-both, seal-both, open-both}
-use Rattle.promises.proofs.AboutText.{decimal-both, hexadecimal-both, octets-of-hex-both, hex-of-octets-both, decimal-of-number-both, put-text-both, requests-hear-both, requests-finish-both, walks-header-both, walks-hear-both, walks-finish-both, bench-header-both, bench-hear-both, bench-finish-both}
 
--- one, and the others
 infixr 5 _⊗_
 _⊗_ : {A B : Type 0} → A → B → A × B
-one ⊗ others = (one, others)
+one ⊗ rest = (one, rest)
 
-pub all-both : All Both publicCalls
-all-both =
-    function-both _ ⊗ function-both _ ⊗ cut-both
-    ⊗ kasumi-both ⊗ kgcore-both ⊗ gsm-both ⊗ ecsd-both ⊗ gea4-both
-    ⊗ function-both _ ⊗ function-both _ ⊗ number-both
-    ⊗ function-both _ ⊗ look-refusal-both ⊗ function-both _ ⊗ put-header-both
-    ⊗ open-sender-both ⊗ open-receiver-both ⊗ seal-both ⊗ open-both
-    ⊗ decimal-both ⊗ hexadecimal-both ⊗ octets-of-hex-both ⊗ hex-of-octets-both ⊗ decimal-of-number-both ⊗ put-text-both ⊗ function-both _ ⊗ function-both _ ⊗ function-both _
-    ⊗ function-both _ ⊗ requests-hear-both ⊗ requests-finish-both
-    ⊗ function-both _ ⊗ walks-header-both ⊗ walks-hear-both ⊗ walks-finish-both
-    ⊗ function-both _ ⊗ bench-header-both ⊗ bench-hear-both ⊗ bench-finish-both ⊗ tt
+-- whatever a call of one to five inputs is given
+in1 : {A : Type 0} → A → Unit {0}
+in1 a = tt
 
-pub split : {P Q : PublicCall → Type 0} → ((call : PublicCall) → P call → Q call) → (calls : List PublicCall) → All P calls → All Q calls
-split take [] each = tt
-split take (call ∷ rest) each = (take call (each .0), split take rest (each .1))
+in2 : {A B : Type 0} → A → B → Unit {0}
+in2 a b = tt
+
+in3 : {A B C : Type 0} → A → B → C → Unit {0}
+in3 a b c = tt
+
+in4 : {A B C D : Type 0} → A → B → C → D → Unit {0}
+in4 a b c d = tt
+
+in5 : {A B C D E : Type 0} → A → B → C → D → E → Unit {0}
+in5 a b c d e = tt
+
+-- the numbers of each call's order are from the table, and no two are the same: computed, whatever the call is given
+abbrev IsOrder : (Lent : Type 0) → Call Lent → Type 0
+IsOrder Lent call = T (isOrder (call .order))
+
+orders : All (Always IsOrder) publicCalls
+unfolding cutOrder xorOrder kasumiOrder kgcoreOrder keyOrder a5Order gea4Order candidateOrder numberOrder lookOrder headerOrder linkOrder cipherOrder sealOrder openOrder
+orders =
+    tt ⊗ tt ⊗ tt ⊗ in4 ⊗ in3 ⊗ in2 ⊗ in4 ⊗ in1 ⊗ in3 ⊗ in3 ⊗ in5 ⊗ tt ⊗ tt ⊗ in2 ⊗ tt ⊗ in1 ⊗ tt ⊗ in3 ⊗ tt ⊗ in4 ⊗ in4 ⊗ in4 ⊗ in3 ⊗ in4 ⊗ in3 ⊗ tt
+
+pub all-answer : All (Always (λ Lent call. Answers call)) publicCalls
+all-answer = of-all (λ Lent call order. answers call order) publicCalls orders
+
+pub all-determined : All (Always (λ Lent call. Determined call)) publicCalls
+all-determined = of-all (λ Lent call order. determined call order) publicCalls orders

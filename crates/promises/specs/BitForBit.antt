@@ -2,14 +2,15 @@
 -- Assumes nothing.
 use Prim.Native.Nat.{ℕ, _+_, _*_, _≤_, _<_}
 use mathlib.Core.Path.{_≡_}
-use mathlib.Core.List.{List}
+use mathlib.Core.List.{List, []}
 use lib.ListN.{drop}
 use Rattle.octets.specs.Bits.{bitOf}
 use Rattle.kgcore.specs.declared.Inputs.{Inputs}
-use Rattle.kgcore.specs.Kgcore.{keyBit, KgcoreCall}
+use Rattle.refusals.specs.Call.{Answered, Outputs}
+use Rattle.kgcore.specs.Kgcore.{keyBit, kgcoreCall}
 use Rattle.keystreams.specs.Key.{prepared}
-use Rattle.keystreams.specs.A5.{gsmKind, ecsdKind, a5Inputs, A5Call}
-use Rattle.keystreams.specs.Gea4.{gea4Inputs, Gea4Call}
+use Rattle.keystreams.specs.A5.{gsmKind, ecsdKind, a5Inputs, a5Call}
+use Rattle.keystreams.specs.Gea4.{gea4Inputs, gea4Call}
 
 -- so many bits of a bit string, from bit `start` on, stand in the first octets of a buffer; the spare bits after them are zero; and the octets past
 -- them are as they were
@@ -20,17 +21,17 @@ pub record HoldsBits (bit : ℕ → ℕ) (start count octets : ℕ) (before afte
 
 pub record BitForBit : Type 0 where
   -- KGCORE: the first CL bits, in CL / 8 octets, rounded up
-  pub kgcore : {key : List ℕ} {inputs : Inputs} {cl octets : ℕ} {before output : List ℕ} → KgcoreCall key inputs cl before 0 output
+  pub kgcore : (inputs : Inputs) (key : List ℕ) (cl octets : ℕ) (before : List ℕ) {output : List ℕ} → Answered (kgcoreCall inputs key cl before) 0 [] output
       → cl ≤ 8 * octets → 8 * octets < cl + 8
       → HoldsBits (keyBit key inputs) 0 cl octets before output
   -- GSM: BLOCK1 is bits 0 to 113, BLOCK2 bits 114 to 227, in 15 octets each
-  pub gsm : {key : List ℕ} {count : ℕ} {before1 before2 block1 block2 : List ℕ} → A5Call gsmKind key count before1 before2 0 block1 block2
-      → HoldsBits (keyBit (prepared key) (a5Inputs gsmKind count)) 0 114 15 before1 block1
-      × HoldsBits (keyBit (prepared key) (a5Inputs gsmKind count)) 114 114 15 before2 block2
+  pub gsm : (key : List ℕ) (count : ℕ) (before : Outputs) {blocks : Outputs} → Answered (a5Call gsmKind key count before) 0 [] blocks
+      → HoldsBits (keyBit (prepared key) (a5Inputs gsmKind count)) 0 114 15 (before .one) (blocks .one)
+      × HoldsBits (keyBit (prepared key) (a5Inputs gsmKind count)) 114 114 15 (before .two) (blocks .two)
   -- ECSD: BLOCK1 is bits 0 to 347, BLOCK2 bits 348 to 695, in 44 octets each
-  pub ecsd : {key : List ℕ} {count : ℕ} {before1 before2 block1 block2 : List ℕ} → A5Call ecsdKind key count before1 before2 0 block1 block2
-      → HoldsBits (keyBit (prepared key) (a5Inputs ecsdKind count)) 0 348 44 before1 block1
-      × HoldsBits (keyBit (prepared key) (a5Inputs ecsdKind count)) 348 348 44 before2 block2
+  pub ecsd : (key : List ℕ) (count : ℕ) (before : Outputs) {blocks : Outputs} → Answered (a5Call ecsdKind key count before) 0 [] blocks
+      → HoldsBits (keyBit (prepared key) (a5Inputs ecsdKind count)) 0 348 44 (before .one) (blocks .one)
+      × HoldsBits (keyBit (prepared key) (a5Inputs ecsdKind count)) 348 348 44 (before .two) (blocks .two)
   -- GEA4: bits 0 to 8M - 1, in M octets
-  pub gea4 : {key : List ℕ} {input direction m : ℕ} {before output : List ℕ} → Gea4Call key input direction m before 0 output
+  pub gea4 : (key : List ℕ) (input direction m : ℕ) (before : List ℕ) {output : List ℕ} → Answered (gea4Call key input direction m before) 0 [] output
       → HoldsBits (keyBit (prepared key) (gea4Inputs input direction)) 0 (8 * m) m before output

@@ -2,18 +2,20 @@
 -- here is the paper's: the one number with N on the air in the window (document 01, "The link"). Assumes nothing.
 use Prim.Native.Nat.{ℕ, _+_, _≤_, _<_}
 use mathlib.Core.Path.{_≡_}
-use mathlib.Core.Logic.{_↔_}
-use mathlib.Core.Bool.{true}
-use mathlib.Core.List.{List}
+use mathlib.Core.Logic.{_↔_, _⊎_}
+use mathlib.Core.Bool.{true, false, _&&_, _||_}
+use mathlib.Core.List.{List, [], _∷_}
+use lib.Dec.{eqb, leb}
 use lib.ListN.{length, take, drop}
 use Rattle.refusals.specs.Refusal.{first}
-use Rattle.numbering.specs.Numbering.{end, isRepeat, Candidate}
-use Rattle.frames.specs.Frame.{AreOctets, headerOf, lookOrder, looked}
-use Rattle.link.specs.declared.Sender.{Sender}
-use Rattle.link.specs.declared.Receiver.{Receiver}
+use Rattle.refusals.specs.Call.{Answered}
+use Rattle.numbering.specs.Numbering.{end, isAccepted, Candidate}
+use Rattle.frames.specs.Frame.{AreOctets, headerOf, payloadOf, lookOrder, looked}
 use Rattle.link.specs.Link.{frameAt}
-use Rattle.link.specs.Seal.{SealCall}
-use Rattle.link.specs.Open.{OpenCall}
+use Rattle.sender.specs.declared.Sender.{Sender}
+use Rattle.sender.specs.Sender.{sealCall}
+use Rattle.receiver.specs.declared.Receiver.{Receiver}
+use Rattle.receiver.specs.Receiver.{Opening, receiverCanArise, isOfLink, openCall}
 
 -- a payload that was sealed: under the next number, the whole frame of that number stands at the front of the output, p + 6 octets; the octets past
 -- it are kept; and the next number is one more
@@ -26,36 +28,54 @@ pub record SealedByTheRule (sender : Sender) (payload before : List ℕ) (number
   pub link-is : later .link ≡ sender .link
 
 -- a frame that was opened: its number is the candidate, below 2^27, and was not accepted before; the frame is the frame of that number with the
--- payload that then stands at the front of the output; the octets past it are kept; a new number moves V past it, and a late one leaves V
+-- payload that then stands at the front of the output; the octets past it are kept; a new number moves V past it, and a late one leaves V; and what
+-- is accepted afterwards is what was accepted before and this number, cut to the window
 pub record OpenedByTheRule (w : ℕ) (receiver : Receiver) (octets before : List ℕ) (number size : ℕ) (later : Receiver) (after : List ℕ) : Type 0 where
   pub is-candidate : Candidate w (receiver .numbering .next) (headerOf octets .sent) number
   pub before-end : number < end
-  pub not-repeat : isRepeat (receiver .numbering) number ≡ true → ⊥
+  pub not-repeat : isAccepted (receiver .numbering) number ≡ false
   pub size-is : size + 6 ≡ length octets
   pub frame-is : octets ≡ frameAt (receiver .link) number (take size after)
   pub past : drop size after ≡ drop size before
   pub new : receiver .numbering .next ≤ number → later .numbering .next ≡ number + 1
   pub late : number < receiver .numbering .next → later .numbering .next ≡ receiver .numbering .next
+  pub marks : (m : ℕ) → isAccepted (later .numbering) m ≡ ((eqb m number || isAccepted (receiver .numbering) m) && leb (later .numbering .next) (m + w))
   pub link-is : later .link ≡ receiver .link
 
-pub record ByTheRule (w : ℕ) : Type 0 where
-  pub sealed : {sender : Sender} {payload before : List ℕ} {number size : ℕ} {later : Sender} {after : List ℕ}
-      → SealCall sender payload before 0 number size later after
-      → SealedByTheRule sender payload before number size later after
-  pub opened : {receiver : Receiver} {octets before : List ℕ} {number size : ℕ} {later : Receiver} {after : List ℕ}
-      → AreOctets octets → OpenCall w receiver octets before 0 number size later after
-      → OpenedByTheRule w receiver octets before number size later after
+-- a frame comes to be numbered: 12, 5, 6, 7 and 8 do not apply
+pub record IsNumbered (w : ℕ) (receiver : Receiver) (octets : List ℕ) : Type 0 where
+  pub can-arise : receiverCanArise w receiver ≡ true
+  pub looked : first (lookOrder octets) ≡ 0
+  pub of-link : isOfLink (receiver .link) octets ≡ true
+
+-- and n is its candidate, below 2^27
+pub record IsNumberedAs (w : ℕ) (receiver : Receiver) (octets : List ℕ) (n : ℕ) : Type 0 where
+  pub numbered : IsNumbered w receiver octets
+  pub is-candidate : Candidate w (receiver .numbering .next) (headerOf octets .sent) n
+  pub before-end : n < end
+
+-- which of 9, 10, 11 and 4 an open call answers, exactly when
+pub record OpenRefusals (w : ℕ) (receiver : Receiver) (octets before : List ℕ) (refusal number : ℕ) : Type 0 where
   -- 9 START: no number is the candidate, since it would be below 0
-  pub start : {receiver later : Receiver} {octets before after : List ℕ} {number size : ℕ}
-      → AreOctets octets → OpenCall w receiver octets before 9 number size later after
-      → (n : ℕ) → Candidate w (receiver .numbering .next) (headerOf octets .sent) n → ⊥
+  pub start : (refusal ≡ 9) ↔ (IsNumbered w receiver octets × ((n : ℕ) → Candidate w (receiver .numbering .next) (headerOf octets .sent) n → ⊥))
   -- 10 END: the candidate is 2^27 or more
-  pub ended : {receiver later : Receiver} {octets before after : List ℕ} {number size : ℕ}
-      → AreOctets octets → OpenCall w receiver octets before 10 number size later after
-      → (n : ℕ) × Candidate w (receiver .numbering .next) (headerOf octets .sent) n × (end ≤ n)
-  -- 11 REPEAT: the candidate, which is given, was accepted already
-  pub repeat : {receiver later : Receiver} {octets before after : List ℕ} {number size : ℕ}
-      → AreOctets octets → OpenCall w receiver octets before 11 number size later after
-      → Candidate w (receiver .numbering .next) (headerOf octets .sent) number × (isRepeat (receiver .numbering) number ≡ true)
+  pub end : (refusal ≡ 10) ↔ (IsNumbered w receiver octets × ((n : ℕ) × Candidate w (receiver .numbering .next) (headerOf octets .sent) n × (end ≤ n)))
+  -- 11 REPEAT: the candidate was accepted already
+  pub repeat : (refusal ≡ 11) ↔ ((n : ℕ) × IsNumberedAs w receiver octets n × (isAccepted (receiver .numbering) n ≡ true))
+  -- 4 ROOM: it was not, and the output is shorter than the payload
+  pub room : (refusal ≡ 4) ↔ ((n : ℕ) × IsNumberedAs w receiver octets n × (isAccepted (receiver .numbering) n ≡ false) × (length before < length (payloadOf octets)))
+  -- the number that is given with 11 and 4 is the candidate
+  pub given : (refusal ≡ 11) ⊎ (refusal ≡ 4) → Candidate w (receiver .numbering .next) (headerOf octets .sent) number
+
+pub record ByTheRule (w : ℕ) : Type 0 where
+  pub sealed : (sender : Sender) (payload before : List ℕ) {number size : ℕ} {later : Sender} {after : List ℕ}
+      → Answered (sealCall sender payload before) 0 (number ∷ size ∷ []) (record { sender = later; output = after })
+      → SealedByTheRule sender payload before number size later after
+  pub opened : (receiver : Receiver) (octets before : List ℕ) {number size : ℕ} {later : Receiver} {after : List ℕ}
+      → AreOctets octets → Answered (openCall w receiver octets before) 0 (number ∷ size ∷ []) (record { receiver = later; output = after })
+      → OpenedByTheRule w receiver octets before number size later after
+  pub refused : (receiver : Receiver) (octets before : List ℕ) {refusal number size : ℕ} {lent : Opening}
+      → AreOctets octets → Answered (openCall w receiver octets before) refusal (number ∷ size ∷ []) lent
+      → OpenRefusals w receiver octets before refusal number
   -- a look's stretch is empty exactly when 5, 6 or 7 applies
   pub look : (octets : List ℕ) → (length (looked octets) ≡ 0) ↔ (first (lookOrder octets) ≡ 0 → ⊥)

@@ -4,48 +4,47 @@ use Prim.Native.Nat.{ℕ, _≤_}
 use mathlib.Core.Path.{_≡_}
 use mathlib.Core.List.{List, [], _∷_}
 use lib.ListN.{length}
-use Rattle.link.specs.declared.Sender.{Sender}
-use Rattle.link.specs.declared.Receiver.{Receiver}
-use Rattle.link.specs.Seal.{OpenSenderCall}
-use Rattle.link.specs.Open.{OpenReceiverCall, OpenCall}
-use Rattle.promises.specs.Bench.{SentFrame, Seals, IsOneOf, Events, arrivals, InWindow}
+use Rattle.numbering.specs.Numbering.{width}
+use Rattle.sender.specs.declared.Sender.{Sender}
+use Rattle.receiver.specs.declared.Receiver.{Receiver}
+use Rattle.promises.specs.Ends.{OpenCall, SentFrame, Sends, IsOneOf, Events, arrivals, AllInWindow, OpenedAlike, benchSending, benchReceiving}
 
--- a run of two newly opened ends that meets the hypotheses of promise 3, in which these numbers arrive, in this order
-pub record RunOf (w : ℕ) (key : List ℕ) (iov sapi direction : ℕ) (numbers : List ℕ) : Type 0 where
+-- a run of two ends of the bench opened alike that meets the hypotheses of promise 3, in which these numbers arrive, in this order
+pub record RunOf (w : ℕ) (numbers : List ℕ) : Type 0 where
   pub sender : Sender
   pub sender-last : Sender
   pub receiver : Receiver
   pub receiver-last : Receiver
   pub frames : List SentFrame
-  pub sender-opened : OpenSenderCall key iov sapi direction 0 sender
-  pub receiver-opened : OpenReceiverCall key iov sapi direction 0 receiver
-  pub sealed : Seals sender frames sender-last
-  pub events : Events w frames receiver receiver-last
-  pub in-window : InWindow events
+  pub opened : OpenedAlike sender receiver
+  pub sent : Sends benchSending sender frames sender-last
+  pub events : Events (benchReceiving w) frames receiver receiver-last
+  pub in-window : AllInWindow w events
   pub arrived : arrivals events ≡ numbers
 
 -- after a run the next number is v; one of the sender's frames, of number n, then arrives, and is handed out under another number
-pub record Misread {w : ℕ} {key : List ℕ} {iov sapi direction : ℕ} {numbers : List ℕ} (run : RunOf w key iov sapi direction numbers) (v n number : ℕ) : Type 0 where
+pub record Misread {w : ℕ} {numbers : List ℕ} (run : RunOf w numbers) (v n number : ℕ) : Type 0 where
   pub frame : SentFrame
-  pub before : List ℕ
-  pub after : List ℕ
-  pub size : ℕ
+  pub call : OpenCall
   pub later : Receiver
   pub next-is : run .receiver-last .numbering .next ≡ v
   pub number-is : frame .number ≡ n
   pub one : IsOneOf frame (run .frames)
-  pub room : length (frame .payload) ≤ length before
-  pub call : OpenCall w (run .receiver-last) (frame .octets) before 0 number size later after
+  pub presented : call .presented ≡ frame .octets
+  pub room : length (frame .payload) ≤ length (call .before)
+  pub opens : benchReceiving w .Opens (run .receiver-last) call later
+  pub handed-out : call .refusal ≡ 0
+  pub under : call .number ≡ number
   pub not-its-own : number ≡ frame .number → ⊥
 
--- what is shown of a link, at its width of 32
-pub record Shown (key : List ℕ) (iov sapi direction : ℕ) : Type 0 where
+-- what is shown at the link's width, 32
+pub record Shown : Type 0 where
   -- a run over a rollover. 0 arrives; 480 is 479 above the next number 1; 478 comes late, and again; 481 to 959 are lost, a stretch of 479 over the
   -- rollover at 512, and 960 is 479 above the next number 481; 929 is 32 below the next number 961. Seals and presentations are refused in between
-  pub over-a-rollover : RunOf 32 key iov sapi direction (0 ∷ 480 ∷ 478 ∷ 478 ∷ 960 ∷ 929 ∷ [])
+  pub over-a-rollover : RunOf width (0 ∷ 480 ∷ 478 ∷ 478 ∷ 960 ∷ 929 ∷ [])
   -- one past the upper edge: after 0 and 480 the next number is 481, and 961, which is 480 above it, is read as 449, one turn behind
-  pub up-to-481 : RunOf 32 key iov sapi direction (0 ∷ 480 ∷ [])
+  pub up-to-481 : RunOf width (0 ∷ 480 ∷ [])
   pub above : Misread up-to-481 481 961 449
   -- one past the lower edge: after 0 and 33 the next number is 34, and 1, which is 33 below it, is read as 513, one turn ahead
-  pub up-to-34 : RunOf 32 key iov sapi direction (0 ∷ 33 ∷ [])
+  pub up-to-34 : RunOf width (0 ∷ 33 ∷ [])
   pub below : Misread up-to-34 34 1 513

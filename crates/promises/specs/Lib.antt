@@ -1,9 +1,8 @@
-pub mod PublicCall
-pub mod Calls
 pub mod BitForBit
 pub mod ByTheRule
+pub mod Calls
+pub mod Ends
+pub mod Examples
 pub mod Promise1
 pub mod Promise2
-pub mod Bench
 pub mod Promise3
-pub mod Examples

@@ -1,11 +1,12 @@
--- Promise 2 (the club's demand 2): the keystreams bit for bit, sealing and opening by the paper's rules, and every public call determined, each
--- refusal given then and only then. Assumes nothing.
-use Rattle.promises.specs.PublicCall.{All, Determined}
+-- Promise 2: the keystreams bit for bit, sealing and opening by the paper's rules, and every public call determined, each refusal given then and only
+-- then. Assumes nothing.
+use Rattle.refusals.specs.Call.{Determined, Always, All}
+use Rattle.numbering.specs.Numbering.{width}
 use Rattle.promises.specs.Calls.{publicCalls}
 use Rattle.promises.specs.BitForBit.{BitForBit}
 use Rattle.promises.specs.ByTheRule.{ByTheRule}
 
 pub record Promise2 : Type 0 where
   pub keystreams : BitForBit
-  pub link : ByTheRule 32
-  pub calls : All Determined publicCalls
+  pub link : ByTheRule width
+  pub calls : All (Always (λ Lent call. Determined call)) publicCalls

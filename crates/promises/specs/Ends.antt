@@ -1,0 +1,178 @@
+-- The ends that promise 3 speaks of: a sender's calls, one after the other, and a receiver's, each given the state that the last one returned. A call is
+-- whatever its contract allows. What promise 3 needs of a frame format and of the two ends is said as records; the bench frame and its ends are their
+-- first use. Assumes nothing.
+use Prim.Native.Nat.{ℕ, _≤_, _<_}
+use mathlib.Core.Path.{_≡_}
+use mathlib.Core.Bool.{cond}
+use mathlib.Core.List.{List, [], _∷_}
+use lib.Dec.{eqb}
+use lib.ListN.{length, take}
+use Rattle.refusals.specs.Call.{Answered}
+use Rattle.numbering.specs.Numbering.{end, InWindow}
+use Rattle.link.specs.declared.Link.{Link}
+use Rattle.link.specs.Link.{frameAt}
+use Rattle.sender.specs.declared.Sender.{Sender}
+use Rattle.sender.specs.Sender.{openSenderCall, sealCall}
+use Rattle.receiver.specs.declared.Receiver.{Receiver}
+use Rattle.receiver.specs.Receiver.{openReceiverCall, openCall}
+
+-- one seal call: the payload, the output before, and what came back
+pub record SealCall : Type 0 where
+  pub payload : List ℕ
+  pub before : List ℕ
+  pub refusal : ℕ
+  pub number : ℕ
+  pub size : ℕ
+  pub after : List ℕ
+
+-- one open call: the octets that were presented, the output before, and what came back
+pub record OpenCall : Type 0 where
+  pub presented : List ℕ
+  pub before : List ℕ
+  pub refusal : ℕ
+  pub number : ℕ
+  pub size : ℕ
+  pub after : List ℕ
+
+-- a sending end: its states; the link of a state; what a seal call may do; and the other steps that it may take between its calls
+pub record Sending : Type 1 where
+  pub State : Type 0
+  pub link : State → Link
+  pub Seals : State → SealCall → State → Type 0
+  pub Steps : State → State → Type 0
+
+-- a receiving end: its states; the link of a state, and its next number V; and what an open call may do
+pub record Receiving : Type 1 where
+  pub State : Type 0
+  pub link : State → Link
+  pub next : State → ℕ
+  pub Opens : State → OpenCall → State → Type 0
+
+-- a frame format, two ends that use it, a new receiver, and two ends that were opened alike
+pub record Ends : Type 1 where
+  pub frameOf : Link → ℕ → List ℕ → List ℕ
+  pub sending : Sending
+  pub receiving : Receiving
+  pub IsNew : receiving .State → Type 0
+  pub OpenedAlike : sending .State → receiving .State → Type 0
+
+-- ---- what is sent
+
+-- a frame of a sender: the number that sealing handed out, the payload that was sealed, and the octets that go on the air
+pub record SentFrame : Type 0 where
+  pub number : ℕ
+  pub payload : List ℕ
+  pub octets : List ℕ
+
+-- the frame of a seal call: as many octets of the output as the call says
+unfoldable pub frameSealed : SealCall → SentFrame
+frameSealed call = record { number = call .number; payload = call .payload; octets = take (call .size) (call .after) }
+
+-- one more frame, where sealing was not refused
+unfoldable pub withSealed : SealCall → List SentFrame → List SentFrame
+withSealed call rest = cond (eqb (call .refusal) 0) (frameSealed call ∷ rest) rest
+
+-- a sender's calls from a state on, any payloads, any outputs, refused ones too, and its other steps: the frames that they sealed in their order, and
+-- the state at the end
+pub data Sends (sending : Sending) : sending .State → List SentFrame → sending .State → Type 0 where
+  no-more : {state : sending .State} → Sends sending state [] state
+  seal : {state later last : sending .State} {rest : List SentFrame} (call : SealCall)
+      → sending .Seals state call later
+      → Sends sending later rest last
+      → Sends sending state (withSealed call rest) last
+  step : {state later last : sending .State} {frames : List SentFrame}
+      → sending .Steps state later
+      → Sends sending later frames last
+      → Sends sending state frames last
+
+-- a frame is one of these
+pub data IsOneOf {A : Type 0} (frame : A) : List A → Type 0 where
+  here : {rest : List A} → IsOneOf frame (frame ∷ rest)
+  there : {other : A} {rest : List A} → IsOneOf frame rest → IsOneOf frame (other ∷ rest)
+
+-- where the two halves of promise 3 meet: this is the frame of its number with its payload on this link, a number below 2^27 and 1 to 1,520 octets
+pub record IsFrame (frameOf : Link → ℕ → List ℕ → List ℕ) (link : Link) (frame : SentFrame) : Type 0 where
+  pub before-end : frame .number < end
+  pub some : 1 ≤ length (frame .payload)
+  pub most : length (frame .payload) ≤ 1520
+  pub octets-are : frame .octets ≡ frameOf link (frame .number) (frame .payload)
+
+-- ---- what arrives
+
+-- a receiver's calls from a state on, and the state at the end. An event is the arrival of one of the sender's frames, with an output that has room
+-- for its payload, or the presentation of any octets, with any output, that is refused. A frame presented without room is an event of the second kind.
+-- Which frames arrive, how often and in which order is free: a frame that never arrives is lost. The two ends share no state, so that nothing is lost
+-- by telling all that is sent first
+pub data Events (receiving : Receiving) (frames : List SentFrame) : receiving .State → receiving .State → Type 0 where
+  no-more : {state : receiving .State} → Events receiving frames state state
+  arrival : {state later last : receiving .State} (frame : SentFrame) (call : OpenCall)
+      → IsOneOf frame frames
+      → call .presented ≡ frame .octets
+      → length (frame .payload) ≤ length (call .before)
+      → receiving .Opens state call later
+      → Events receiving frames later last
+      → Events receiving frames state last
+  refused : {state later last : receiving .State} (call : OpenCall)
+      → (call .refusal ≡ 0 → ⊥)
+      → receiving .Opens state call later
+      → Events receiving frames later last
+      → Events receiving frames state last
+
+-- the numbers that arrived, in their order
+abbrev pub arrivals : {receiving : Receiving} {frames : List SentFrame} {state last : receiving .State} → Events receiving frames state last → List ℕ
+arrivals no-more = []
+arrivals (arrival frame call one presented room opens rest) = frame .number ∷ arrivals rest
+arrivals (refused call not-done opens rest) = arrivals rest
+
+-- at each arrival the frame's number is in the window of the next number V of that moment: at most w below it and at most 511 - w above it
+abbrev pub AllInWindow : (w : ℕ) {receiving : Receiving} {frames : List SentFrame} {state last : receiving .State} → Events receiving frames state last → Type 0
+AllInWindow w no-more = Unit {0}
+AllInWindow w {receiving} (arrival {state = state} frame call one presented room opens rest) = InWindow w (receiving .next state) (frame .number) × AllInWindow w rest
+AllInWindow w (refused call not-done opens rest) = AllInWindow w rest
+
+-- ---- the bench frame, its sender and its receiver, whose window has the width w
+
+-- a sender and a receiver newly opened with the same key, offset, service number and direction
+pub record OpenedAlike (sender : Sender) (receiver : Receiver) : Type 0 where
+  pub key : List ℕ
+  pub iov : ℕ
+  pub sapi : ℕ
+  pub direction : ℕ
+  pub sender-opened : Answered (openSenderCall key iov sapi direction) 0 [] sender
+  pub receiver-opened : Answered (openReceiverCall key iov sapi direction) 0 [] receiver
+
+-- a newly opened receiver
+pub record IsNew (receiver : Receiver) : Type 0 where
+  pub key : List ℕ
+  pub iov : ℕ
+  pub sapi : ℕ
+  pub direction : ℕ
+  pub receiver-opened : Answered (openReceiverCall key iov sapi direction) 0 [] receiver
+
+-- a sender takes no step but its calls
+abbrev pub benchSending : Sending
+benchSending = record {
+  State = Sender;
+  link = λ sender. sender .link;
+  Seals = λ sender call later.
+      Answered (sealCall sender (call .payload) (call .before)) (call .refusal) (call .number ∷ call .size ∷ []) (record { sender = later; output = call .after });
+  Steps = λ sender later. ⊥;
+}
+
+abbrev pub benchReceiving : ℕ → Receiving
+benchReceiving w = record {
+  State = Receiver;
+  link = λ receiver. receiver .link;
+  next = λ receiver. receiver .numbering .next;
+  Opens = λ receiver call later.
+      Answered (openCall w receiver (call .presented) (call .before)) (call .refusal) (call .number ∷ call .size ∷ []) (record { receiver = later; output = call .after });
+}
+
+abbrev pub benchEnds : ℕ → Ends
+benchEnds w = record {
+  frameOf = frameAt;
+  sending = benchSending;
+  receiving = benchReceiving w;
+  IsNew = IsNew;
+  OpenedAlike = OpenedAlike;
+}
