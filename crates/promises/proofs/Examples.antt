@@ -1,0 +1,325 @@
+-- For every link and every payload: a run that meets the hypotheses of promise 3 to their edges and crosses a rollover with a lost stretch of 479,
+-- with refused calls on both sides; and the frames one past the edges that are misread. Assumes nothing.
+use Prim.Native.Nat.{ℕ, zero, suc, _+_, _%_, _≤_, _<_, zero-le}
+use native.Mathlib.Omega.{arith}
+use native.Mathlib.Nat.{add-zero}
+use native.Mathlib.Numerals.{add-one}
+use mathlib.Core.Path.{_≡_, refl, sym, ap, ap₂, subst, _∙_}
+use mathlib.Core.Bool.{true, false}
+use mathlib.Core.List.{List, [], _∷_}
+use borrow.Author.Tests.{le-leb, eqb-false}
+use lib.Dec.{T, leb, ltb, lit<, lit≤}
+use lib.ListN.{length, take, replicate, length-replicate}
+use Rattle.refusals.specs.Refusal.{first}
+use Rattle.refusals.specs.Call.{Answered, front}
+use Rattle.refusals.proofs.Calls.{done, refused as refused-with}
+use Rattle.keystreams.specs.Key.{isKey}
+use Rattle.frames.specs.Frame.{frame, lookOrder, isWhole}
+use Rattle.numbering.specs.declared.Numbering.{Numbering}
+use Rattle.numbering.specs.Numbering.{width, numberingOf, start, end, InWindow, marksOf, mark, canArise, isAccepted, accepted}
+use Rattle.link.specs.declared.Link.{Link}
+use Rattle.link.specs.Link.{isService, isDirection, linkCanArise, linkOrder, linkOf, frameAt, headerAt, ciphered}
+use Rattle.link.proofs.Links.{opened-link}
+use Rattle.link.proofs.Frames.{ciphered-twice, length-ciphered}
+use Rattle.sender.specs.declared.Sender.{Sender}
+use Rattle.sender.specs.Sender.{newSender, afterFrame, openSenderCall, senderCanArise, sealCall}
+use Rattle.sender.proofs.Sealing.{seal-0, seal-3-empty}
+use Rattle.receiver.specs.declared.Receiver.{Receiver}
+use Rattle.receiver.specs.Receiver.{newReceiver, afterAccepting, openReceiverCall, receiverCanArise, openCall}
+use Rattle.receiver.proofs.Opening.{open-looked}
+use Rattle.receiver.proofs.Laws.{open-new, open-repeat, open-no-room}
+use Rattle.promises.specs.Ends.{SealCall, OpenCall, SentFrame, frameSealed, withSealed, Sends, no-more, seal, IsOneOf, here, there, Events, arrival, refused, arrivals, AllInWindow, benchSending, benchReceiving}
+use Rattle.promises.specs.Examples.{RunOf, Shown}
+use Rattle.promises.proofs.Sending.{senders-half}
+use Rattle.promises.proofs.BenchLaws.{bench-sending}
+
+-- the turn is not on the air: the frame of a number is, for every number with the same nine bits, the frame of that number with another payload
+pub turn-not-on-air : (link : Link) (m n : ℕ) (payload : List ℕ) → m % 512 ≡ n % 512 → frameAt link m payload ≡ frameAt link n (ciphered link n (ciphered link m payload))
+unfolding frameAt headerAt
+turn-not-on-air link m n payload same =
+    ap₂ frame
+    {x = record { sapi = link .sapi; direction = link .direction; sent = m % 512 }}
+    (λ i. record { sapi = link .sapi; direction = link .direction; sent = same i })
+    (sym (ciphered-twice link n (ciphered link m payload)))
+
+module _ (key : List ℕ) (iov sapi direction : ℕ) (valid : isKey key ≡ true) (service : isService sapi ≡ true) (way : isDirection direction ≡ true)
+    (payload : List ℕ) (some : 1 ≤ length payload) (most : length payload ≤ 1520) where
+  abbrev link : Link
+  link = linkOf key iov sapi direction
+
+  -- the ends, opened
+  abbrev sender-at : ℕ → Sender
+  sender-at n = record { link = link; next = n }
+
+  abbrev receiver-at : Numbering → Receiver
+  receiver-at numbering = record { link = link; numbering = numbering }
+
+  nothing-refused : first (linkOrder key sapi direction) ≡ 0
+  unfolding first linkOrder
+  nothing-refused = simp (valid, service, way)
+
+  link-good : linkCanArise link ≡ true
+  link-good = opened-link key iov sapi direction nothing-refused
+
+  sender-opens : Answered (openSenderCall key iov sapi direction) 0 [] (sender-at 0)
+  unfolding newSender
+  sender-opens = done (openSenderCall key iov sapi direction) nothing-refused
+
+  receiver-opens : Answered (openReceiverCall key iov sapi direction) 0 [] (receiver-at start)
+  unfolding newReceiver
+  receiver-opens = done (openReceiverCall key iov sapi direction) nothing-refused
+
+  -- ---- the sender seals the payload again and again
+
+  abbrev room-for : List ℕ
+  room-for = replicate (length payload + 6) 0
+
+  abbrev seal-call : ℕ → SealCall
+  seal-call n = record { payload = payload; before = room-for; refusal = 0; number = n; size = length payload + 6; after = front (frameAt link n payload) room-for }
+
+  abbrev sent-at : ℕ → SentFrame
+  sent-at n = record { number = n; payload = payload; octets = take (length payload + 6) (front (frameAt link n payload) room-for) }
+
+  abbrev sent-from : ℕ → ℕ → List SentFrame
+  sent-from n zero = []
+  sent-from n (suc k) = sent-at n ∷ sent-from (suc n) k
+
+  good-sender : (n : ℕ) → n ≤ end → senderCanArise (sender-at n) ≡ true
+  unfolding senderCanArise
+  good-sender n most = simp (link-good, le-leb n end most)
+
+  seals-one : (n : ℕ) → n < end → benchSending .Seals (sender-at n) (seal-call n) (sender-at (suc n))
+  unfolding afterFrame
+  seals-one n below =
+      subst (λ (next : ℕ). benchSending .Seals (sender-at n) (seal-call n) (sender-at next)) (add-one n)
+      (done (sealCall (sender-at n) payload room-for)
+      (seal-0 (sender-at n) payload room-for (good-sender n (omega arith)) (omega (arith, some)) most (omega (arith, below)) (omega (arith, length-replicate {A = ℕ} (length payload + 6) 0))))
+
+  sends-from : (n k : ℕ) → n + k ≤ end → Sends benchSending (sender-at n) (sent-from n k) (sender-at (n + k))
+  unfolding withSealed frameSealed
+  sends-from n zero below = subst (λ (last : ℕ). Sends benchSending (sender-at n) [] (sender-at last)) (sym (add-zero n)) no-more
+  sends-from n (suc k) below =
+      subst (λ (last : ℕ). Sends benchSending (sender-at n) (sent-from n (suc k)) (sender-at last)) {x = suc n + k} (omega arith)
+      (seal (seal-call n) (seals-one n (omega arith)) (sends-from (suc n) k (omega arith)))
+
+  -- a seal of no payload is refused, and the sender goes on
+  abbrev empty-call : SealCall
+  empty-call = record { payload = []; before = room-for; refusal = 3; number = 0; size = 0; after = room-for }
+
+  seals-nothing : benchSending .Seals (sender-at 0) empty-call (sender-at 0)
+  seals-nothing =
+      refused-with (sealCall (sender-at 0) [] room-for) 3 (seal-3-empty (sender-at 0) [] room-for (good-sender 0 zero-le) refl) (eqb-false 3 0 refl)
+
+  -- 962 frames, after a refused call
+  abbrev frames : List SentFrame
+  frames = sent-from 0 962
+
+  all-sent : Sends benchSending (sender-at 0) frames (sender-at 962)
+  unfolding withSealed end
+  all-sent = seal empty-call seals-nothing (sends-from 0 962 (lit≤ tt))
+
+  one-from : (n k j : ℕ) → j < k → IsOneOf (sent-at (n + j)) (sent-from n k)
+  one-from n zero j below = absurd (omega arith)
+  one-from n (suc k) zero below = subst (λ (m : ℕ). IsOneOf (sent-at m) (sent-from n (suc k))) (sym (add-zero n)) here
+  one-from n (suc k) (suc j) below =
+      subst (λ (m : ℕ). IsOneOf (sent-at m) (sent-from n (suc k))) {x = suc n + j} (omega arith) (there (one-from (suc n) k j (omega arith)))
+
+  one-of : (n : ℕ) → n < 962 → IsOneOf (sent-at n) frames
+  one-of n below = subst (λ (m : ℕ). IsOneOf (sent-at m) frames) {x = 0 + n} (omega arith) (one-from 0 962 n below)
+
+  octets-are : (n : ℕ) → n < 962 → frameAt link n payload ≡ sent-at n .octets
+  octets-are n below = sym (senders-half frameAt benchSending bench-sending all-sent .each-is (sent-at n) (one-of n below) .octets-are)
+
+  -- ---- the receiver
+
+  -- events from one numbering to another, within the window, in which these numbers arrive
+  record Going (numbering last : Numbering) (numbers : List ℕ) : Type 0 where
+    events : Events (benchReceiving width) frames (receiver-at numbering) (receiver-at last)
+    in-window : AllInWindow width events
+    arrived : arrivals events ≡ numbers
+
+  record Ready (numbering : Numbering) (n : ℕ) : Type 0 where
+    good : canArise width numbering ≡ true
+    inside : InWindow width (numbering .next) n
+    sent : n < 962
+
+  below-end : {n : ℕ} → n < 962 → n < end
+  unfolding end
+  below-end sent = omega arith
+
+  good-receiver : (numbering : Numbering) → canArise width numbering ≡ true → receiverCanArise width (receiver-at numbering) ≡ true
+  unfolding receiverCanArise
+  good-receiver numbering good = simp (link-good, good)
+
+  -- frame n presented, with an output, and its answer
+  abbrev call-of : ℕ → List ℕ → ℕ → ℕ → List ℕ → OpenCall
+  call-of n before refusal size after =
+      record { presented = sent-at n .octets; before = before; refusal = refusal; number = n; size = size; after = after }
+
+  new : {numbering last : Numbering} {numbers : List ℕ} (n : ℕ) → Ready numbering n → isAccepted numbering n ≡ false → Going (accepted width numbering n) last numbers
+      → Going numbering last (n ∷ numbers)
+  unfolding afterAccepting
+  new {numbering} n ready anew going = record {
+    events =
+        arrival (sent-at n) (call-of n payload 0 (length payload) (front payload payload)) (one-of n (ready .sent)) refl (omega arith)
+        (subst (λ (o : List ℕ). Answered (openCall width (receiver-at numbering) o payload) 0 (n ∷ length payload ∷ []) (record { receiver = receiver-at (accepted width numbering n); output = front payload payload }))
+        (octets-are n (ready .sent))
+        (open-new width (lit≤ tt) (receiver-at numbering) (good-receiver numbering (ready .good)) n (ready .inside) (below-end (ready .sent)) payload some most payload anew (omega arith)))
+        (going .events);
+    in-window = (ready .inside, going .in-window);
+    arrived = ap (λ (l : List ℕ). n ∷ l) (going .arrived);
+  }
+
+  again : {numbering last : Numbering} {numbers : List ℕ} (n : ℕ) → Ready numbering n → isAccepted numbering n ≡ true → Going numbering last numbers → Going numbering last (n ∷ numbers)
+  again {numbering} n ready marked going = record {
+    events =
+        arrival (sent-at n) (call-of n payload 11 0 payload) (one-of n (ready .sent)) refl (omega arith)
+        (subst (λ (o : List ℕ). Answered (openCall width (receiver-at numbering) o payload) 11 (n ∷ 0 ∷ []) (record { receiver = receiver-at numbering; output = payload }))
+        (octets-are n (ready .sent))
+        (open-repeat width (lit≤ tt) (receiver-at numbering) (good-receiver numbering (ready .good)) n (ready .inside) (below-end (ready .sent)) payload some most payload marked))
+        (going .events);
+    in-window = (ready .inside, going .in-window);
+    arrived = ap (λ (l : List ℕ). n ∷ l) (going .arrived);
+  }
+
+  -- no octets at all are refused with 5
+  silence : {numbering last : Numbering} {numbers : List ℕ} → canArise width numbering ≡ true → Going numbering last numbers → Going numbering last numbers
+  unfolding first lookOrder isWhole
+  silence {numbering} good going = record {
+    events =
+        refused (record { presented = []; before = []; refusal = 5; number = 0; size = 0; after = [] }) (eqb-false 5 0 refl)
+        (refused-with (openCall width (receiver-at numbering) [] []) 5
+        (open-looked width (receiver-at numbering) [] [] (good-receiver numbering good) (eqb-false 5 0 refl))
+        (eqb-false 5 0 refl))
+        (going .events);
+    in-window = going .in-window;
+    arrived = going .arrived;
+  }
+
+  stop : {numbering : Numbering} → Going numbering numbering []
+  stop = record { events = no-more; in-window = tt; arrived = refl }
+
+  -- a frame presented without room is refused with 4, and may be presented again
+  no-room : {numbering last : Numbering} {numbers : List ℕ} (n : ℕ) → Ready numbering n → isAccepted numbering n ≡ false → Going numbering last numbers
+      → Going numbering last numbers
+  no-room {numbering} n ready anew going = record {
+    events =
+        refused (call-of n [] 4 0 []) (eqb-false 4 0 refl)
+        (subst (λ (o : List ℕ). Answered (openCall width (receiver-at numbering) o []) 4 (n ∷ 0 ∷ []) (record { receiver = receiver-at numbering; output = [] }))
+        (octets-are n (ready .sent))
+        (open-no-room width (lit≤ tt) (receiver-at numbering) (good-receiver numbering (ready .good)) n (ready .inside) (below-end (ready .sent)) payload some most [] anew some))
+        (going .events);
+    in-window = going .in-window;
+    arrived = going .arrived;
+  }
+
+  -- ---- the runs
+
+  ready : {next marks n : ℕ} → canArise width (numberingOf next marks) ≡ true → T (leb next (n + width)) → T (ltb (n + width) (next + 512)) → T (ltb n 962) → Ready (numberingOf next marks) n
+  ready good low high sent = record { good = good; inside = record { not-below = lit≤ low; not-above = lit< high }; sent = lit< sent }
+
+  -- what is left at each arrival
+  from-961 : Going (numberingOf 961 1) (numberingOf 961 2147483649) (929 ∷ [])
+  unfolding canArise isAccepted marksOf mark accepted end
+  from-961 = new 929 (ready refl tt tt tt) refl stop
+
+  from-481 : Going (numberingOf 481 5) (numberingOf 961 2147483649) (478 ∷ 960 ∷ 929 ∷ [])
+  unfolding canArise isAccepted marksOf mark accepted end
+  from-481 = again 478 (ready refl tt tt tt) refl (new 960 (ready refl tt tt tt) refl from-961)
+
+  from-0 : Going start (numberingOf 961 2147483649) (0 ∷ 480 ∷ 478 ∷ 478 ∷ 960 ∷ 929 ∷ [])
+  unfolding canArise isAccepted marksOf mark accepted end
+  from-0 = new 0 (ready refl tt tt tt) refl (silence refl (no-room 480 (ready refl tt tt tt) refl (new 480 (ready refl tt tt tt) refl (new 478 (ready refl tt tt tt) refl from-481))))
+
+  abbrev run-of : {last : Numbering} {numbers : List ℕ} → Going start last numbers → RunOf width key iov sapi direction numbers
+  run-of {last} going = record {
+    sender = sender-at 0;
+    sender-last = sender-at 962;
+    receiver = receiver-at start;
+    receiver-last = receiver-at last;
+    frames = frames;
+    sender-opened = sender-opens;
+    receiver-opened = receiver-opens;
+    sent = all-sent;
+    events = going .events;
+    in-window = going .in-window;
+    arrived = going .arrived;
+  }
+
+  -- a frame is handed out under the one number of the window with its nine bits
+  garbled : ℕ → ℕ → List ℕ
+  garbled m n = ciphered link n (ciphered link m payload)
+
+  length-garbled : (m n : ℕ) → length (garbled m n) ≡ length payload
+  unfolding garbled
+  length-garbled m n = length-ciphered link n (ciphered link m payload) ∙ length-ciphered link m payload
+
+  -- the open call that hands out frame m under number n
+  abbrev garbled-call : ℕ → ℕ → OpenCall
+  garbled-call m n = record {
+    presented = sent-at m .octets;
+    before = payload;
+    refusal = 0;
+    number = n;
+    size = length (garbled m n);
+    after = front (garbled m n) payload;
+  }
+
+  taken-for : {numbering : Numbering} (m n : ℕ) → m < 962 → m % 512 ≡ n % 512 → Ready numbering n → isAccepted numbering n ≡ false
+      → benchReceiving width .Opens (receiver-at numbering) (garbled-call m n) (receiver-at (accepted width numbering n))
+  unfolding garbled afterAccepting
+  taken-for {numbering} m n sent same ready anew =
+      let long = length-garbled m n in
+      subst (λ (o : List ℕ). Answered (openCall width (receiver-at numbering) o payload) 0 (n ∷ length (garbled m n) ∷ []) (record { receiver = receiver-at (accepted width numbering n); output = front (garbled m n) payload }))
+      (sym (turn-not-on-air link m n payload same) ∙ octets-are m sent)
+      (open-new width (lit≤ tt) (receiver-at numbering) (good-receiver numbering (ready .good)) n (ready .inside) (below-end (ready .sent)) (garbled m n)
+      (omega (arith, some, long)) (omega (arith, most, long)) payload anew (omega (arith, long)))
+
+  up-to-481 : Going start (numberingOf 481 1) (0 ∷ 480 ∷ [])
+  unfolding canArise isAccepted marksOf mark accepted end
+  up-to-481 = new 0 (ready refl tt tt tt) refl (new 480 (ready refl tt tt tt) refl stop)
+
+  up-to-34 : Going start (numberingOf 34 1) (0 ∷ 33 ∷ [])
+  unfolding canArise isAccepted marksOf mark accepted end
+  up-to-34 = new 0 (ready refl tt tt tt) refl (new 33 (ready refl tt tt tt) refl stop)
+
+  pub shown : Shown key iov sapi direction
+  unfolding canArise isAccepted marksOf mark accepted end
+  shown = record {
+    over-a-rollover = run-of from-0;
+    up-to-481 = run-of up-to-481;
+    above = record {
+      frame = sent-at 961;
+      call = garbled-call 961 449;
+      later = receiver-at (numberingOf 481 2147483649);
+      next-is = refl;
+      number-is = refl;
+      one = one-of 961 (lit< tt);
+      presented = refl;
+      room = omega arith;
+      opens = taken-for {numbering = numberingOf 481 1} 961 449 (lit< tt) refl (ready refl tt tt tt) refl;
+      handed-out = refl;
+      under = refl;
+      not-its-own = eqb-false 449 961 refl;
+    };
+    up-to-34 = run-of up-to-34;
+    below = record {
+      frame = sent-at 1;
+      call = garbled-call 1 513;
+      later = receiver-at (numberingOf 514 1);
+      next-is = refl;
+      number-is = refl;
+      one = one-of 1 (lit< tt);
+      presented = refl;
+      room = omega arith;
+      opens = taken-for {numbering = numberingOf 34 1} 1 513 (lit< tt) refl (ready refl tt tt tt) refl;
+      handed-out = refl;
+      under = refl;
+      not-its-own = eqb-false 513 1 refl;
+    };
+  }
+
+-- and of one link in particular, with a key of zeros and a payload of one octet
+pub shown-once : Shown (replicate 16 0) 0x01234567 3 0
+unfolding isKey isService isDirection
+shown-once = shown (replicate 16 0) 0x01234567 3 0 refl refl refl (7 ∷ []) (lit≤ tt) (lit≤ tt)
