@@ -8,7 +8,7 @@ use Rattle.kgcore.specs.Kgcore.{register, blocks}
 use Rattle.keystreams.specs.A5.{gsmKind, ecsdKind, a5Inputs}
 use Rattle.keystreams.specs.Gea4.{gea4Inputs}
 use Rattle.numbering.specs.declared.Numbering.{Numbering}
-use Rattle.numbering.specs.Numbering.{candidate, candidateOrder, accepted}
+use Rattle.numbering.specs.Numbering.{width, numberingOf, candidate, candidateOrder, accepted}
 use Rattle.link.specs.Input.{inputOf}
 
 pub record Example : Type 0 where
@@ -17,7 +17,7 @@ pub record Example : Type 0 where
 
 -- a receiver's numbering at V that has accepted V - 1 alone of its window
 abbrev pub at : ℕ → Numbering
-at v = record { next = v; marks = 1 }
+at v = numberingOf v 1
 
 unfoldable pub marked : List Example
 marked =
@@ -39,15 +39,15 @@ marked =
     record { given = blocks 228; said = 4 } ∷
     record { given = blocks 696; said = 11 } ∷
     -- P9: V 4, N 500: refusal 9
-    record { given = first (candidateOrder 32 (at 4) 500); said = 9 } ∷
+    record { given = first (candidateOrder width (at 4) 500); said = 9 } ∷
     -- P10: V 480, N 448: not refused, 448, and late, so that V stays
-    record { given = first (candidateOrder 32 (at 480) 448); said = 0 } ∷
-    record { given = candidate 32 480 448; said = 448 } ∷
-    record { given = accepted 32 (at 480) 448 .next; said = 480 } ∷
+    record { given = first (candidateOrder width (at 480) 448); said = 0 } ∷
+    record { given = candidate width 480 448; said = 448 } ∷
+    record { given = accepted width (at 480) 448 .next; said = 480 } ∷
     -- P11: V 480, N 447: not refused, 959, and new, so that V is one more
-    record { given = first (candidateOrder 32 (at 480) 447); said = 0 } ∷
-    record { given = candidate 32 480 447; said = 959 } ∷
-    record { given = accepted 32 (at 480) 959 .next; said = 960 } ∷ []
+    record { given = first (candidateOrder width (at 480) 447); said = 0 } ∷
+    record { given = candidate width 480 447; said = 959 } ∷
+    record { given = accepted width (at 480) 959 .next; said = 960 } ∷ []
 
 -- example k of a table
 unfoldable pub exampleAt : List Example → ℕ → Example
