@@ -5,4 +5,5 @@ pub mod Frames
 pub mod Laws
 pub mod Opening
 pub mod Sealing
+pub mod Within
 pub mod Xor
