@@ -59,6 +59,10 @@ prove() {
                 if [ "$weighed" -gt 0 ]; then rest=$((rest * took / weighed)); fi
                 echo "$crate is proved ($told s): $proved of $crates crates$([ "$proved" = "$crates" ] || echo ", $(about "$rest") to go")" >&2
                 ;;
+            'rt: '*' NOT PROVED ('*)
+                crate=${line#rt: } crate=${crate%% *}
+                echo "$line; target/log/$crate.out says why" >&2
+                ;;
             'rt: '*) echo "$line" >&2 ;;
             esac
         done
