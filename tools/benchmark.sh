@@ -6,9 +6,9 @@ set -euo pipefail
 top=$(cd "$(dirname "$0")/.." && pwd -P)
 cd "$top"
 . tools/kit.sh
+. tools/progress.sh
 
-echo 'proving the benchmark and building the second program ..' >&2
-rt check benchmark </dev/null | grep --line-buffered '^rt: ' >&2
+prove benchmark
 cargo build --quiet --release --offline --manifest-path second/Cargo.toml
 room=$(mktemp -d)
 trap 'rm -rf "$room"' EXIT

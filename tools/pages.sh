@@ -1,5 +1,6 @@
 #!/usr/bin/env bash
-# Fails when a page names a file or a name that does not exist, when docs/CALLS.md, the list that promises 1 and 2 speak of, the crate public_calls or
+# Fails when a page names a file or a name that does not exist, or leads to a heading that does not; when docs/USING.md does not show the files of the
+# crate `using` as they are; when docs/CALLS.md, the list that promises 1 and 2 speak of, the crate public_calls or
 # the lines of `call` on README.md do not have exactly the public calls, when docs/ARCHITECTURE.md does not say what crates.txt says, or when a public
 # function has a `requires`.
 # On the pages, `crate/folder/File.ext#name` is a name in a file under crates/, and `a/path.ext` a file.
@@ -24,7 +25,13 @@ declares() {
     esac
 }
 
-for page in README.md docs/*.md docs/*/*.md; do
+# The headings of a page, as a link names them.
+headings() { sed -nE 's/^#+ (.*)/\1/p' "$1" | tr '[:upper:]' '[:lower:]' | sed -E 's/[^a-z0-9 _-]//g; s/ /-/g'; }
+
+# A file as a page shows it: in the first fenced block after a line that ends with the file's name and a colon.
+shown() { awk -v name="\`$2\`:" 'substr($0, length($0) - length(name) + 1) == name { on = 1; next } on && /^```/ { if (inside) exit; inside = 1; next } inside' "$1"; }
+
+for page in README.md docs/*.md docs/*/*.md vectors/README.md; do
     [ -f "$page" ] || continue
     while IFS= read -r token; do
         path=${token%%#*}
@@ -32,8 +39,14 @@ for page in README.md docs/*.md docs/*/*.md; do
         case $token in *'#'*) declares "$file" "${token#*#}" || fault "$page: $file declares no ${token#*#}" ;; esac
     done < <(grep -oE '`[A-Za-z0-9_][A-Za-z0-9_./-]*/[A-Za-z0-9_./-]+(\.(antt|rt|edit|md|rs|txt|sh|in|out)(#[^`]+)?|/stdin|/stdout)`' "$page" | tr -d '`' | sort -u)
     while IFS= read -r link; do
-        [ -e "$(dirname "$page")/$link" ] || fault "$page: a link to $link, which does not exist"
-    done < <(grep -oE '\]\([^)#:]+\)' "$page" | sed 's/^](//; s/)$//' | sort -u)
+        file=${link%%#*} file=${file:+$(dirname "$page")/$file} file=${file:-$page}
+        [ -e "$file" ] || { fault "$page: a link to $link, which does not exist"; continue; }
+        case $link in *'#'*) headings "$file" | grep -qxF -- "${link#*#}" || fault "$page: a link to $link, a heading that does not exist" ;; esac
+    done < <(grep -oE '\]\([^):]+\)' "$page" | sed 's/^](//; s/)$//' | sort -u)
+done
+
+for file in crates/using/src/main.rt crates/using/stdout crates/using/proofs/seal/Proof.antt; do
+    cmp -s <(shown docs/USING.md "$file") "$file" || fault "docs/USING.md does not show $file as it is"
 done
 
 calls=$(for source in crates/*/src/*.rt; do

@@ -1,4 +1,4 @@
-//! This program held against the published vector files: S-boxes, round keys, INPUT values,
+//! This program held against the vector files: S-boxes, round keys, INPUT values,
 //! every set.
 //! Follows 3GPP TS 35.202 (tables and key schedule) and the files of the folder `vectors`.
 
@@ -34,7 +34,7 @@ pub fn report(folder: &Path) -> Result<String, String> {
             differences.push(format!("{name}: no set"));
         }
         for Published { call, answer } in published {
-            // A step within a chain has no published answer.
+            // A step within a chain has no answer of its own.
             let Some(answer) = answer else { continue };
             let own = call::answer(call.as_bytes()).unwrap_or("?".to_string());
             if own != answer {

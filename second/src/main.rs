@@ -19,6 +19,7 @@ mod product;
 mod random;
 mod refusals;
 mod stream;
+mod using;
 mod vectors;
 mod walk;
 
@@ -32,6 +33,7 @@ second stream          the expected output of `stream` for standard input
 second call            the expected output of `call` for standard input
 second walk            the expected output of `walk` for standard input
 second demo            the expected output of `demo` for standard input
+second using           the expected output of `using`
 second cases stream    a test input for `stream`
 second cases call      a test input for `call`
 second cases walk      a test input for `walk`
@@ -41,7 +43,7 @@ second huge stream     an input for `stream` with lines of a megabyte
 second huge call       an input for `call` with lines of a megabyte
 second huge walk       an input for `walk` with lines of a megabyte, up to the last number
 second huge demo       an input for `demo` with lines of a megabyte
-second vectors DIR     a call and its published answer for every set of DIR
+second vectors DIR     a call and its answer for every set of DIR
 second bench M COUNT   the exclusive or of COUNT outputs of GEA4, M octets each";
 
 fn main() -> ExitCode {
@@ -62,6 +64,7 @@ fn output(words: &[&str]) -> Result<Vec<u8>, String> {
         ["call"] => Ok(lines::answers(&input()?, call::answer).into()),
         ["walk"] => Ok(walk::output(&input()?).into()),
         ["demo"] => Ok(demo::output(&input()?)),
+        ["using"] => Ok(using::output().into()),
         ["cases", "stream"] => Ok(cases::stream::input().into()),
         ["cases", "call"] => Ok(cases::call::input().into()),
         ["cases", "walk"] => Ok(cases::walk::input().into()),

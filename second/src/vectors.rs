@@ -1,4 +1,4 @@
-//! The published vector files: their sets, and each set as lines of the program `call`.
+//! The vector files: their sets, and each set as lines of the program `call`.
 //! Follows the form that the folder `vectors` describes: sets of `name = value` lines
 //! between empty lines, `#` before a comment.
 
@@ -13,7 +13,7 @@ pub const KASUMI: &str = include_str!("../../vectors/kasumi.txt");
 pub const A5: &str = include_str!("../../vectors/a5.txt");
 pub const GEA: &str = include_str!("../../vectors/gea.txt");
 
-/// A call, and its answer where a published value gives one.
+/// A call, and its answer where the set gives one.
 pub struct Published {
     pub call: String,
     pub answer: Option<String>,

@@ -1,5 +1,6 @@
--- The laws of a refusal order, of a public call, and of tests that the checker computes.
+-- The laws of a refusal order, of a public call, of a lent output, and of tests that the checker computes.
 pub mod Calls
 pub mod Laws
 pub mod Orders
 pub mod Tests
+pub mod Within

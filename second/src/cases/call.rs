@@ -1,4 +1,4 @@
-//! The test input for the program `call`: published vectors, document 01's examples,
+//! The test input for the program `call`: the vectors, document 01's examples,
 //! edges, every refusal alone and with others, bad lines, random lines; then the link's and
 //! those of texts.
 

@@ -1,4 +1,4 @@
-//! The test input for the program `stream`: published GEA4 vectors, sizes, every kind of
+//! The test input for the program `stream`: the GEA4 vectors, sizes, every kind of
 //! bad line, random lines.
 
 use super::{ended, published, spoiled, KEY, NEAR_HEX, SIZES};
@@ -13,7 +13,7 @@ pub fn input() -> String {
     ended(parts.concat())
 }
 
-/// The published calls of GEA4 in the order of this program's fields.
+/// The calls of the GEA4 sets in the order of this program's fields.
 fn published_vectors() -> Vec<String> {
     let line = |call: &str| {
         let fields: Vec<&str> = call.split(' ').collect();

@@ -1,0 +1,32 @@
+#!/usr/bin/env bash
+# Fails when an example on a page is not what the second program, whose path is given, answers. An example is a line `$ COMMAND | ./run NAME` in a fenced
+# block, with the lines after it, up to the next such line or the block's end, as its output; or what a script of the demonstration prints, which begins
+# with the heading of `demo`.
+set -euo pipefail
+second=$1
+top=$(cd "$(dirname "$0")/.." && pwd -P)
+cd "$top"
+
+failed=0
+tried=0
+# compare PAGE EXAMPLE SHOWN MADE
+compare() {
+    tried=$((tried + 1))
+    [ "$3" = "$4" ] || { printf '%s: %s\n' "$1" "$2" >&2; diff <(echo "$3") <(echo "$4") >&2 || true; failed=1; }
+}
+
+for page in README.md docs/*.md; do
+    while IFS= read -r command; do
+        shown=$(LINE="\$ $command" awk '/^```/ { on = 0 } on && /^\$ / { exit } on { print } $0 == ENVIRON["LINE"] { on = 1 }' "$page")
+        made=$(bash -c "${command% | ./run *}" | "$second" "${command##* }")
+        compare "$page" "$command" "$shown" "$made"
+    done < <(sed -nE 's/^\$ ((echo|printf) .* \| \.\/run [a-z]+)$/\1/p' "$page")
+done
+
+for pair in 'README.md demo/rollover.txt' 'docs/BENCH.md demo/refusals.txt'; do
+    read -r page script <<<"$pair"
+    compare "$page" "$script" "$(sed -n '/^phone  /,/^```$/p' "$page" | sed '$d')" "$("$second" demo <"$script")"
+done
+
+[ "$tried" -gt 2 ] || { echo 'no example was found on the pages' >&2; exit 1; }
+exit "$failed"
