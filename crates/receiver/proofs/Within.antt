@@ -23,4 +23,4 @@ opened-within w receiver octets before {refusal} {number} {size} {after = after}
     front-within (ciphered (receiver .link) (candidateOf w receiver octets) (payloadOf octets)) before (cc (length-ciphered (receiver .link) (candidateOf w receiver octets) (payloadOf octets))) (ap (λ (l : Opening). l .output) lent))
     (λ some.
     let numbers = rw some at (answered .numbers-are) in
-    none-within (cc))
+    none-within after (cc))

@@ -12,14 +12,14 @@ use Rattle.refusals.specs.Call.{front}
 abbrev pub Within : ℕ → List ℕ → Type 0
 Within count output = (count ≤ length output) × (count ≡ length (take count output))
 
-within : {count : ℕ} {output : List ℕ} → count ≤ length output → Within count output
-within {count} {output} least = (least, sym (length-take-le count output least))
+within : (count : ℕ) (output : List ℕ) → count ≤ length output → Within count output
+within count output least = (least, sym (length-take-le count output least))
 
 -- a result at the front, and none
 pub front-within : (result before : List ℕ) {count : ℕ} {after : List ℕ} → count ≡ length result → after ≡ front result before → Within count after
 unfolding front
-front-within result before count-is output-is =
-    within (omega (arith, count-is, ap length output-is, length-append result (drop (length result) before)))
+front-within result before {count} {after} count-is output-is =
+    within count after (omega (arith, count-is, ap length output-is, length-append result (drop (length result) before)))
 
-pub none-within : {count : ℕ} {after : List ℕ} → count ≡ 0 → Within count after
-none-within none = within (omega (arith, none))
+pub none-within : {count : ℕ} (after : List ℕ) → count ≡ 0 → Within count after
+none-within {count} after none = within count after (omega (arith, none))

@@ -22,4 +22,4 @@ sealed-within sender payload before {refusal} {number} {size} {after = after} an
     front-within (frameAt (sender .link) (sender .next) payload) before (cc (length-frame-at (sender .link) (sender .next) payload)) (ap (λ (l : Sealing). l .output) lent))
     (λ some.
     let numbers = rw some at (answered .numbers-are) in
-    none-within (cc))
+    none-within after (cc))
