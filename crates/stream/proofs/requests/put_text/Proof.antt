@@ -1,23 +1,27 @@
--- `requests::put_text` meets its contract: a line not of the form has `?`, a refused request the refusal's number, and any other the hex of its octets.
+-- `stream::requests::put_text` meets its contract: a line not of the form has `?`, a refused request the refusal's number, and any other the hex of its octets.
 -- Assumes nothing.
 use Prim.Native.Nat.{ℕ, _≤_}
 use borrow.Author.Needs.{needs}
 use borrow.Author.Tests.{not-true, not-false}
 use denote.Ref.{now}
+use lib.ListN.{take, replicate, length-take}
 use lib.Seq.{length-take-le}
 use mathlib.Core.Bool.{true}
 use mathlib.Core.List.{List, [], _∷_}
 use mathlib.Core.Path.{_≡_, refl, sym, ap, _∙_}
 use native.Mathlib.Omega.{arith}
+use Rattle.refusals.specs.Call.{Outcome}
+use Rattle.refusals.proofs.Calls.{is-outcome}
 use Rattle.lines.specs.Text.{hexText, decimalText}
-use Rattle.lines.proofs.Answered.{answered-stored, answered-put}
+use Rattle.lines.proofs.Placed.{at-front-stored, at-front-put}
 use Rattle.lines.proofs.InDecimal.{length-decimalText}
 use Rattle.lines.proofs.Text.{length-hexText}
-use Rattle.requests.specs.declared.form.Request.{Request}
-use Rattle.requests.specs.Answer.{refusalOf, octetsOf}
-use Rattle.requests.proofs.Answers.{read-nothing, read-answer, read-limit, text-refused, text-done, length-octets, gea4-front}
-use Rattle.requests.proofs.put_text.Statement.{statement}
-use Rattle.requests.proofs.put_text.Tie as tie
+use Rattle.stream.specs.declared.form.Request.{Request}
+use Rattle.keystreams.specs.Gea4.{gea4Call}
+use Rattle.stream.specs.Answer.{outcomeOf}
+use Rattle.stream.proofs.Answers.{read-nothing, read-answer, read-limit, text-refused, text-done}
+use Rattle.stream.proofs.requests.put_text.Statement.{statement}
+use Rattle.stream.proofs.requests.put_text.Tie as tie
 
 -- where GEA4 has been called: the line, what it asks, and that it asks something
 abbrev at-request : tie.After-gea4 → tie.After-request-of
@@ -35,9 +39,13 @@ is-request c = not-false _ (c .before .before .before .before .if1 .left)
 limit : (c : tie.After-gea4) → request c .m ≤ 1520
 limit c = read-limit (line c) (at-request c .request-of .ensures) (is-request c)
 
-refusal-is : (c : tie.After-gea4) → c .gea4 .result ≡ refusalOf (request c)
-unfolding refusalOf
-refusal-is c = c .gea4 .ensures .refusal-is
+-- what GEA4 answered
+outcome-is : (c : tie.After-gea4) → record { refusal = c .gea4 .result; numbers = []; lent = c .gea4 .last .1 .1 .1 .1 .0 } ≡ outcomeOf (request c)
+unfolding outcomeOf
+outcome-is c = is-outcome (gea4Call (request c .key) (request c .input) (request c .direction) (request c .m) (replicate 1520 0)) (c .gea4 .ensures)
+
+refusal-is : (c : tie.After-gea4) → c .gea4 .result ≡ outcomeOf (request c) .refusal
+refusal-is c = ap (λ (o : Outcome (List ℕ)). o .refusal) (outcome-is c)
 
 request-of-requires : tie.Need-request-of-requires
 request-of-requires c κs = search needs
@@ -52,7 +60,7 @@ returns : tie.Need-returns
 returns c =
     let at-request = c .before .before in
     rw (read-nothing _ (at-request .request-of .ensures) (not-true _ (c .if1 .taken)))
-    (answered-stored (63 ∷ []) _ 1 refl (omega arith))
+    (at-front-stored (63 ∷ []) _ 1 refl (omega arith))
 
 slice-aggregate-gea4 : tie.Need-slice-aggregate-gea4
 slice-aggregate-gea4 c = search needs
@@ -77,7 +85,7 @@ returns-2 c =
     let at-refused = c .before .before .before .before in
     let at-gea4 = at-refused .before .before in
     let refusal : ℕ = at-gea4 .gea4 .result in
-    answered-put (c .before .before .decimal-of-number .ensures) (omega (arith, length-decimalText refusal))
+    at-front-put _ _ (c .before .before .decimal-of-number .ensures) (omega (arith, length-decimalText refusal))
     (ap decimalText (refusal-is at-gea4)
     ∙ sym (text-refused (request at-gea4) (λ none. at-refused .if2 .taken (refusal-is at-gea4 ∙ none)))
     ∙ sym (read-answer (line at-gea4) (at-request at-gea4 .request-of .ensures) (is-request at-gea4)))
@@ -98,14 +106,12 @@ same-length-3 : tie.Need-same-length-3
 same-length-3 c = search needs
 
 returns-3 : tie.Need-returns-3
-unfolding octetsOf
 returns-3 c =
     let at-done = c .before .before .before .before .before .before in
     let at-gea4 = at-done .before .before in
-    let octets-are = gea4-front (at-gea4 .gea4 .ensures) (at-done .if2 .left) in
-    answered-put (c .before .before .hex-of-octets .ensures)
-    (rw (octets-are, length-hexText (octetsOf (request at-gea4)), length-octets (request at-gea4)) (omega (arith, limit at-gea4)))
-    (ap hexText octets-are
+    at-front-put _ _ (c .before .before .hex-of-octets .ensures)
+    (omega (arith, limit at-gea4, length-hexText (take (request at-gea4 .m) (at-gea4 .gea4 .last .1 .1 .1 .1 .0)), length-take (request at-gea4 .m) (at-gea4 .gea4 .last .1 .1 .1 .1 .0)))
+    (ap (λ (o : Outcome (List ℕ)). hexText (take (request at-gea4 .m) (o .lent))) (outcome-is at-gea4)
     ∙ sym (text-done (request at-gea4) (sym (refusal-is at-gea4) ∙ at-done .if2 .left))
     ∙ sym (read-answer (line at-gea4) (at-request at-gea4 .request-of .ensures) (is-request at-gea4)))
 

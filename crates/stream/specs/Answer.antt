@@ -3,24 +3,22 @@ use Prim.Native.Nat.{ℕ}
 use mathlib.Core.Bool.{cond}
 use mathlib.Core.List.{List, [], _∷_, _++_}
 use lib.Dec.{eqb}
-use lib.ListN.{replicate}
-use Rattle.refusals.specs.Refusal.{first}
-use Rattle.keystreams.specs.Gea4.{gea4Order, gea4Output}
+use lib.ListN.{take, replicate}
+use Rattle.refusals.specs.Call.{Outcome, outcome}
+use Rattle.keystreams.specs.Gea4.{gea4Call}
 use Rattle.lines.specs.Text.{hexText, decimalText}
-use Rattle.requests.specs.declared.form.Request.{Request}
-use Rattle.requests.specs.Form.{isRequest, asked}
+use Rattle.stream.specs.declared.form.Request.{Request}
+use Rattle.stream.specs.Form.{isRequest, asked}
 
--- the refusal of a request, where there is room for 1,520 octets
-unfoldable pub refusalOf : Request → ℕ
-refusalOf request = first (gea4Order (request .key) (request .direction) (request .m) (replicate 1520 0))
+-- what GEA4 answers to a request, with room for 1,520 octets
+unfoldable pub outcomeOf : Request → Outcome (List ℕ)
+outcomeOf request = outcome (gea4Call (request .key) (request .input) (request .direction) (request .m) (replicate 1520 0))
 
--- the octets of GEA4 that a request asks
-unfoldable pub octetsOf : Request → List ℕ
-octetsOf request = gea4Output (request .key) (request .input) (request .direction) (request .m)
-
--- the answer to a request: the octets as capital hex, or the refusal's number
+-- the answer to a request: the M octets as capital hex, or the refusal's number
 unfoldable pub requestText : Request → List ℕ
-requestText request = cond (eqb (refusalOf request) 0) (hexText (octetsOf request)) (decimalText (refusalOf request))
+requestText request =
+    let given = outcomeOf request in
+    cond (eqb (given .refusal) 0) (hexText (take (request .m) (given .lent))) (decimalText (given .refusal))
 
 -- the text that answers a line: `?` where the line is not of the form
 unfoldable pub answerText : List ℕ → List ℕ

@@ -7,30 +7,25 @@ use mathlib.Core.Bool.{true, false}
 use mathlib.Core.List.{List, [], _∷_}
 use borrow.Author.Tests.{eq-eqb, ne-eqb}
 use lib.Dec.{eqb, lit≤}
-use lib.ListN.{length, take, drop, length-append}
-use lib.Seq.{take-at}
-use Rattle.refusals.specs.Refusal.{lent}
-use Rattle.refusals.proofs.Laws.{lent-done}
+use lib.ListN.{length, take, length-append, length-take}
+use Rattle.refusals.proofs.Tests.{by-test}
 use Rattle.lines.specs.Text.{hexText, decimalText}
 use Rattle.lines.specs.Hearing.{tooLong}
-use Rattle.lines.proofs.Digits.{by-test}
 use Rattle.lines.proofs.Hearing.{LongAlike}
 use Rattle.lines.proofs.InDecimal.{length-decimalText}
 use Rattle.lines.proofs.Text.{length-either, length-hexText}
-use Rattle.keystreams.specs.Gea4.{Gea4Call, gea4Output}
-use Rattle.keystreams.proofs.Laws.{length-gea4}
-use Rattle.requests.specs.declared.form.Request.{Request}
-use Rattle.requests.specs.Form.{isRequest, asked, nothingAsked, requestOf}
-use Rattle.requests.specs.Answer.{refusalOf, octetsOf, requestText, answerText, ended, answer, largestAnswer}
-use Rattle.requests.specs.Stream.{streamRules}
-use Rattle.requests.proofs.Parts.{parts-of, not-accepted}
+use Rattle.stream.specs.declared.form.Request.{Request}
+use Rattle.stream.specs.Form.{isRequest, asked, nothingAsked, requestOf}
+use Rattle.stream.specs.Answer.{outcomeOf, requestText, answerText, ended, answer, largestAnswer}
+use Rattle.stream.specs.Stream.{streamRules}
+use Rattle.stream.proofs.Parts.{parts-of, not-accepted}
 
 -- ---- whether a line is of the form is told by what it asks
 
 module _ (line : List ℕ) where
   request-ok : requestOf line .ok ≡ isRequest line
   unfolding requestOf asked nothingAsked
-  request-ok = by-test (isRequest line) (λ accepted. rw accepted) (λ refused. rw refused)
+  request-ok = by-test (isRequest line) _ (λ accepted. rw accepted) (λ refused. rw refused)
 
   -- nothing asked: `?`
   not-asked : requestOf line .ok ≡ false → answerText line ≡ 63 ∷ []
@@ -60,25 +55,21 @@ module _ (line : List ℕ) {request : Request} (is : request ≡ requestOf line)
 -- ---- the answer to a request
 
 module _ (request : Request) where
-  pub text-refused : (refusalOf request ≡ 0 → ⊥) → requestText request ≡ decimalText (refusalOf request)
+  pub text-refused : (outcomeOf request .refusal ≡ 0 → ⊥) → requestText request ≡ decimalText (outcomeOf request .refusal)
   unfolding requestText
-  text-refused refused = rw (ne-eqb (refusalOf request) 0 refused)
+  text-refused refused = rw (ne-eqb (outcomeOf request .refusal) 0 refused)
 
-  pub text-done : refusalOf request ≡ 0 → requestText request ≡ hexText (octetsOf request)
+  pub text-done : outcomeOf request .refusal ≡ 0 → requestText request ≡ hexText (take (request .m) (outcomeOf request .lent))
   unfolding requestText
-  text-done done = rw (eq-eqb (refusalOf request) 0 done)
+  text-done done = rw (eq-eqb (outcomeOf request .refusal) 0 done)
 
   -- two digits an octet
-  pub length-octets : length (octetsOf request) ≡ request .m
-  unfolding octetsOf
-  length-octets = length-gea4 (request .key) (request .input) (request .direction) (request .m)
-
   length-requestText : request .m ≤ 1520 → length (requestText request) ≤ 3040
   unfolding requestText
   length-requestText limit =
-      length-either (eqb (refusalOf request) 0) _ _ 3040
-      (omega (arith, length-hexText (octetsOf request), length-octets))
-      (omega (arith, length-decimalText (refusalOf request)))
+      length-either (eqb (outcomeOf request .refusal) 0) _ _ 3040
+      (omega (arith, length-hexText (take (request .m) (outcomeOf request .lent)), length-take (request .m) (outcomeOf request .lent)))
+      (omega (arith, length-decimalText (outcomeOf request .refusal)))
 
 -- a line of more than 48 octets is bad
 pub too-long : (line : List ℕ) → 48 < length line → answerText line ≡ 63 ∷ []
@@ -88,19 +79,9 @@ too-long line long = rw (not-accepted line (λ parts. omega arith))
 -- every text of an answer has at most 3,040 octets
 pub length-answerText : (line : List ℕ) → length (answerText line) ≤ 3040
 length-answerText line =
-    by-test (requestOf line .ok)
+    by-test (requestOf line .ok) _
     (λ some. rw (request-answer line some) (length-requestText (requestOf line) (request-limit line some)))
     (λ none. rw (not-asked line none) (lit≤ tt))
-
--- ---- the octets of GEA4
-
--- the first octets of the output of GEA4 are what was asked
-pub gea4-front : {key : List ℕ} {input direction m : ℕ} {before : List ℕ} {refusal : ℕ} {after : List ℕ}
-    → Gea4Call key input direction m before refusal after → refusal ≡ 0 → take m after ≡ gea4Output key input direction m
-gea4-front {key} {input} {direction} {m} {before} call done =
-    let octets : List ℕ = gea4Output key input direction m in
-    ap (take m) (call .output-is ∙ ap (λ (n : ℕ). lent n octets before) done ∙ lent-done octets before)
-    ∙ take-at octets (drop (length octets) before) m (length-gea4 key input direction m)
 
 -- ---- the rules of `stream`
 

@@ -3,16 +3,17 @@
 use Prim.Native.Nat.{ℕ, zero, suc, _+_, _-_, _^_, _≤_, _<_}
 use native.Mathlib.Omega.{arith}
 use mathlib.Core.Path.{_≡_, refl, ap, subst, _∙_}
-use mathlib.Core.Bool.{Bool, true, false}
+use mathlib.Core.Bool.{Bool, true, false, and-eq-true-iff}
 use mathlib.Core.List.{List, [], _∷_}
 use borrow.Author.Tests.{eq-eqb, eqb-true, le-leb, leb-true}
 use lib.ListN.{length, getD, take, drop, length-drop}
 use lib.Seq.{length-take-le}
-use Rattle.lines.specs.Digits.{within, allDigits, numberOf, isNumber}
+use Rattle.refusals.proofs.Tests.{by-test}
+use Rattle.lines.specs.Digits.{within, allDigits, valueOf, isNumber}
 use Rattle.lines.specs.Text.{hexOctets, isHex}
-use Rattle.lines.proofs.Digits.{by-test, and-left, and-right, within-both, within-from, within-to, number-below, number-of-digits, number-size, number-digits}
+use Rattle.lines.proofs.Digits.{within-both, within-from, within-to, number-below, number-of-digits, number-size, number-digits}
 use Rattle.lines.proofs.Text.{length-hexOctets, hex-of-digits}
-use Rattle.requests.specs.Form.{mSize, mText, keyText, inputText, directionText, every, requestTests, isRequest, nothingAsked, requestOf, asked}
+use Rattle.stream.specs.Form.{mSize, mText, keyText, inputText, directionText, every, requestTests, isRequest, nothingAsked, requestOf, asked}
 
 -- what the test of the form says, part by part
 pub record Parts (line : List ℕ) : Type 0 where
@@ -22,7 +23,7 @@ pub record Parts (line : List ℕ) : Type 0 where
   pub space-2 : getD line (mSize line + 33) 0 ≡ 32
   pub space-3 : getD line (mSize line + 42) 0 ≡ 32
   pub m-digits : allDigits 10 (mText line) ≡ true
-  pub m-limit : numberOf 10 (mText line) ≤ 1520
+  pub m-limit : valueOf 10 (mText line) ≤ 1520
   pub key-digits : allDigits 16 (keyText line) ≡ true
   pub input-digits : allDigits 16 (inputText line) ≡ true
   pub direction-from : 48 ≤ directionText line
@@ -36,8 +37,8 @@ length-mText line = length-take-le (length line - 44) line (omega arith)
 every-at : (tests : List Bool) → every tests ≡ true → (k : ℕ) → getD tests k true ≡ true
 unfolding every
 every-at [] all k = refl
-every-at (test ∷ rest) all zero = and-left test (every rest) all
-every-at (test ∷ rest) all (suc k) = every-at rest (and-right test (every rest) all) k
+every-at (test ∷ rest) all zero = and-eq-true-iff test _ .0 all .0
+every-at (test ∷ rest) all (suc k) = every-at rest (and-eq-true-iff test _ .0 all .1) k
 
 module _ (line : List ℕ) where
   -- the tests say that the parts are right
@@ -78,7 +79,7 @@ module _ (line : List ℕ) where
 
   -- where some part is wrong, the line is not accepted, and nothing is asked
   pub not-accepted : (Parts line → ⊥) → isRequest line ≡ false
-  not-accepted wrong = by-test (isRequest line) (λ accepted. absurd (wrong (parts-of accepted))) (λ refused. refused)
+  not-accepted wrong = by-test (isRequest line) _ (λ accepted. absurd (wrong (parts-of accepted))) (λ refused. refused)
 
   pub nothing-asked : (Parts line → ⊥) → nothingAsked ≡ requestOf line
   unfolding requestOf
@@ -120,8 +121,8 @@ module _ (line : List ℕ) (parts : Parts line) where
   input-read = number-of-digits 16 16 (inputText line) (omega (arith, length-inputText)) (omega (arith, length-inputText)) (parts .input-digits)
 
   -- eight hex digits fit in 32 bits
-  pub input-fits : numberOf 16 (inputText line) < 2 ^ 32
-  input-fits = subst (λ (n : ℕ). numberOf 16 (inputText line) < 16 ^ n) length-inputText (number-below 16 (inputText line) (parts .input-digits))
+  pub input-fits : valueOf 16 (inputText line) < 2 ^ 32
+  input-fits = subst (λ (n : ℕ). valueOf 16 (inputText line) < 16 ^ n) length-inputText (number-below 16 (inputText line) (parts .input-digits))
 
 -- ---- what a line asks, by its values
 
@@ -139,7 +140,7 @@ input-part line =
     ap (λ (n : ℕ). take n (drop (mSize line + 34) line)) size
 
 pub asked-by-values : (line : List ℕ) (m : ℕ) (key : List ℕ) (input : ℕ) → Parts line
-    → m ≡ numberOf 10 (mText line) → key ≡ hexOctets (keyText line) → input ≡ numberOf 16 (inputText line)
+    → m ≡ valueOf 10 (mText line) → key ≡ hexOctets (keyText line) → input ≡ valueOf 16 (inputText line)
     → record { ok = true; m = m; key = key; input = input; direction = directionText line - 48 } ≡ requestOf line
 unfolding asked
 asked-by-values line m key input parts e-m e-key e-input =

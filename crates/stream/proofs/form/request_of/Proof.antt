@@ -1,4 +1,4 @@
--- `requests::form::request_of` meets its contract: each test that fails names a part that is wrong, and past them all the parts are right.
+-- `stream::form::request_of` meets its contract: each test that fails names a part that is wrong, and past them all the parts are right.
 -- Assumes nothing.
 use Prim.Native.Nat.{ℕ}
 use borrow.Author.Needs.{needs}
@@ -6,18 +6,19 @@ use denote.Ref.{now}
 use lib.ListN.{replicate}
 use lib.Seq.{length-take-le}
 use mathlib.Core.Bool.{true}
-use mathlib.Core.List.{List}
+use mathlib.Core.List.{List, [], _∷_}
 use mathlib.Core.Path.{_≡_, sym, subst, _∙_}
 use native.Mathlib.Omega.{arith}
-use Rattle.lines.specs.Digits.{numberOf, isNumber, NumberCall}
-use Rattle.lines.specs.Text.{hexOctets, HexCall}
+use Rattle.refusals.specs.Call.{Answered}
+use Rattle.lines.specs.Digits.{valueOf, isNumber, hexadecimalCall}
+use Rattle.lines.specs.Text.{hexOctets, octetsOfHexCall}
 use Rattle.lines.proofs.Digits.{number-digits}
 use Rattle.lines.proofs.Text.{hex-digits, front-whole}
-use Rattle.lines.proofs.Determined.{number-taken, number-read, put-read, hex-fits, hex-read}
-use Rattle.requests.specs.Form.{mSize, mText, keyText, inputText, directionText, nothingAsked}
-use Rattle.requests.proofs.Parts.{Parts, nothing-asked, key-part, input-part, length-key, m-read, key-read, input-read, input-fits, asked-by-values}
-use Rattle.requests.proofs.form.request_of.Statement.{statement}
-use Rattle.requests.proofs.form.request_of.Tie as tie
+use Rattle.lines.proofs.Callers.{number-taken, number-read, put-done, hex-fits, hex-read}
+use Rattle.stream.specs.Form.{mSize, mText, keyText, inputText, directionText, nothingAsked}
+use Rattle.stream.proofs.Parts.{Parts, nothing-asked, key-part, input-part, length-key, m-read, key-read, input-read, input-fits, asked-by-values}
+use Rattle.stream.proofs.form.request_of.Statement.{statement}
+use Rattle.stream.proofs.form.request_of.Tie as tie
 
 -- the line, past its spaces
 abbrev line : tie.Else5 → List ℕ
@@ -36,26 +37,26 @@ abbrev at-9 : tie.Else9 → tie.Else8
 at-9 c = c .before .before .before .before
 
 -- M was read
-m-is : (c : tie.Else6) → (isNumber 10 10 (mText (line (at-6 c))) ≡ true) × (c .before .before .decimal .result .value ≡ numberOf 10 (mText (line (at-6 c))))
+m-is : (c : tie.Else6) → (isNumber 10 10 (mText (line (at-6 c))) ≡ true) × (c .before .before .decimal .result .value ≡ valueOf 10 (mText (line (at-6 c))))
 unfolding mText mSize
-m-is c = number-read (c .before .before .decimal .ensures) (c .if6 .left)
+m-is c = number-read 10 10 _ (c .before .before .decimal .ensures) (c .if6 .left)
 
 -- what the call that reads the key says
 key-call : (c : tie.After-octets-of-hex)
-    → HexCall (keyText (line (at-6 (at-7 (c .before .before .before))))) (replicate 16 0)
-    (c .octets-of-hex .result .refusal) (c .octets-of-hex .result .count) (c .octets-of-hex .last .1 .0)
+    → Answered (octetsOfHexCall (keyText (line (at-6 (at-7 (c .before .before .before))))) (replicate 16 0))
+    (c .octets-of-hex .result .refusal) (c .octets-of-hex .result .count ∷ []) (c .octets-of-hex .last .1 .0)
 unfolding mSize
 key-call c =
     subst
-    (λ (text : List ℕ). HexCall text (replicate 16 0) (c .octets-of-hex .result .refusal) (c .octets-of-hex .result .count) (c .octets-of-hex .last .1 .0))
+    (λ (text : List ℕ). Answered (octetsOfHexCall text (replicate 16 0)) (c .octets-of-hex .result .refusal) (c .octets-of-hex .result .count ∷ []) (c .octets-of-hex .last .1 .0))
     (key-part (line (at-6 (at-7 (c .before .before .before))))) (c .octets-of-hex .ensures)
 
 -- what the call that reads INPUT says
 input-call : (c : tie.After-hexadecimal)
-    → NumberCall 16 16 (inputText (line (at-6 (at-7 (at-8 (c .before .before)))))) (c .hexadecimal .result .refusal) (c .hexadecimal .result .value)
+    → Answered (hexadecimalCall (inputText (line (at-6 (at-7 (at-8 (c .before .before))))))) (c .hexadecimal .result .refusal) (c .hexadecimal .result .value ∷ []) tt
 unfolding mSize
 input-call c =
-    subst (λ (text : List ℕ). NumberCall 16 16 text (c .hexadecimal .result .refusal) (c .hexadecimal .result .value))
+    subst (λ (text : List ℕ). Answered (hexadecimalCall text) (c .hexadecimal .result .refusal) (c .hexadecimal .result .value ∷ []) tt)
     (input-part (line (at-6 (at-7 (at-8 (c .before .before)))))) (c .hexadecimal .ensures)
 
 -- past all tests the parts are right
@@ -76,8 +77,8 @@ all-right c =
       space-3 = at-spaces .if5 .left;
       m-digits = number-digits 10 10 (mText text) (m-read .0);
       m-limit = omega (arith, m-read .1, at-8 at-key .if7 .left);
-      key-digits = hex-digits (keyText text) (hex-read (keyText text) (key-call (at-key .before .before .before)) (at-key .if8 .left));
-      input-digits = number-digits 16 16 (inputText text) (number-read (input-call (at-input .before .before)) (at-input .if9 .left) .0);
+      key-digits = hex-digits (keyText text) (hex-read (keyText text) _ (key-call (at-key .before .before .before)) (at-key .if8 .left));
+      input-digits = number-digits 16 16 (inputText text) (number-read 16 16 _ (input-call (at-input .before .before)) (at-input .if9 .left) .0);
       direction-from = omega arith;
       direction-to = omega arith;
     }
@@ -134,7 +135,7 @@ decimal-requires c κs = search needs
 
 returns-6 : tie.Need-returns-6
 unfolding nothingAsked mSize mText
-returns-6 c = nothing-asked _ (λ parts. c .if6 .taken (number-taken (c .before .before .decimal .ensures) (m-read (line (c .before .before .before .before)) parts)))
+returns-6 c = nothing-asked _ (λ parts. c .if6 .taken (number-taken 10 10 _ (c .before .before .decimal .ensures) (m-read (line (c .before .before .before .before)) parts)))
 
 returns-7 : tie.Need-returns-7
 unfolding nothingAsked mSize mText
@@ -163,7 +164,7 @@ octets-of-hex-requires c κs = search needs
 
 returns-8 : tie.Need-returns-8
 unfolding nothingAsked
-returns-8 c = nothing-asked _ (λ parts. c .if8 .taken (hex-fits _ (key-call (c .before .before .before)) (key-read _ parts) (omega (arith, length-key _ parts))))
+returns-8 c = nothing-asked _ (λ parts. c .if8 .taken (hex-fits _ _ (key-call (c .before .before .before)) (key-read _ parts) (omega (arith, length-key _ parts))))
 
 add-hexadecimal : tie.Need-add-hexadecimal
 add-hexadecimal c = search needs
@@ -185,7 +186,7 @@ hexadecimal-requires c κs = search needs
 
 returns-9 : tie.Need-returns-9
 unfolding nothingAsked
-returns-9 c = nothing-asked _ (λ parts. c .if9 .taken (number-taken (input-call (c .before .before)) (input-read _ parts)))
+returns-9 c = nothing-asked _ (λ parts. c .if9 .taken (number-taken 16 16 _ (input-call (c .before .before)) (input-read _ parts)))
 
 add-direction : tie.Need-add-direction
 add-direction c = search needs
@@ -207,7 +208,7 @@ cast-t29 c = search needs
 cast-t30 : tie.Need-cast-t30
 cast-t30 c =
     let at-input = c .before .before .before .before .before in
-    let value-is = number-read (input-call (at-input .before .before)) (at-input .if9 .left) .1 in
+    let value-is = number-read 16 16 _ (input-call (at-input .before .before)) (at-input .if9 .left) .1 in
     omega (arith, value-is, input-fits _ (all-right (c .before .before)))
 
 returns-12 : tie.Need-returns-12
@@ -217,11 +218,11 @@ returns-12 c =
     let at-key = at-9 at-input in
     let right = all-right (c .before .before) in
     let text = line (at-6 (at-7 (at-8 at-key))) in
-    let key-put = put-read (key-call (at-key .before .before .before)) (at-key .if8 .left) in
+    let key-put = put-done _ _ _ (key-call (at-key .before .before .before)) (at-key .if8 .left) in
     asked-by-values text _ _ _ right
     (m-is (at-7 (at-8 at-key)) .1)
-    (key-put .1 ∙ front-whole (hexOctets (keyText text)) (replicate 16 0) (length-key text right))
-    (number-read (input-call (at-input .before .before)) (at-input .if9 .left) .1)
+    (key-put .output-is ∙ front-whole (hexOctets (keyText text)) (replicate 16 0) (length-key text right))
+    (number-read 16 16 _ (input-call (at-input .before .before)) (at-input .if9 .left) .1)
 
 pub request-of-spec : {M : Type 1} → statement M
 request-of-spec =

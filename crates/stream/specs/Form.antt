@@ -6,15 +6,15 @@ use mathlib.Core.Bool.{Bool, true, false, cond, _&&_}
 use mathlib.Core.List.{List, [], _∷_, _++_}
 use lib.Dec.{eqb, leb}
 use lib.ListN.{length, getD, take, drop, replicate}
-use Rattle.lines.specs.Digits.{within, allDigits, numberOf, isNumber}
+use Rattle.lines.specs.Digits.{within, allDigits, valueOf, isNumber}
 use Rattle.lines.specs.Text.{hexOctets}
-use Rattle.requests.specs.declared.form.Request.{Request}
+use Rattle.stream.specs.declared.form.Request.{Request}
 
 -- a line is of the form: it is the four parts with a space between
 pub record RequestLine (line m key input : List ℕ) (direction : ℕ) : Type 0 where
   pub line-is : line ≡ m ++ 32 ∷ (key ++ 32 ∷ (input ++ 32 ∷ direction ∷ []))
   pub m-digits : isNumber 10 4 m ≡ true
-  pub m-limit : numberOf 10 m ≤ 1520
+  pub m-limit : valueOf 10 m ≤ 1520
   pub key-size : length key ≡ 32
   pub key-digits : allDigits 16 key ≡ true
   pub input-size : length input ≡ 8
@@ -53,7 +53,7 @@ requestTests line =
     eqb (getD line (mSize line + 33) 0) 32 ∷
     eqb (getD line (mSize line + 42) 0) 32 ∷
     isNumber 10 4 (mText line) ∷
-    leb (numberOf 10 (mText line)) 1520 ∷
+    leb (valueOf 10 (mText line)) 1520 ∷
     allDigits 16 (keyText line) ∷
     allDigits 16 (inputText line) ∷
     within 48 49 (directionText line) ∷ []
@@ -66,9 +66,9 @@ isRequest line = every (requestTests line)
 unfoldable pub asked : List ℕ → Request
 asked line = record {
   ok = true;
-  m = numberOf 10 (mText line);
+  m = valueOf 10 (mText line);
   key = hexOctets (keyText line);
-  input = numberOf 16 (inputText line);
+  input = valueOf 16 (inputText line);
   direction = directionText line - 48;
 }
 

@@ -1,11 +1,11 @@
--- `requests::hear` meets its contract: the tests of the room and of the octet pick the case.
+-- `stream::requests::hear` meets its contract: the tests of the room and of the octet pick the case.
 -- Assumes nothing.
 use mathlib.Core.Path.{ap}
 use Rattle.lines.proofs.Calls.{hear-no-room, hear-feed, hear-other}
-use Rattle.requests.specs.Stream.{streamRules, standing}
+use Rattle.stream.specs.Stream.{streamRules, standing}
 use borrow.Author.Needs.{needs}
-use Rattle.requests.proofs.hear.Statement.{statement}
-use Rattle.requests.proofs.hear.Tie as tie
+use Rattle.stream.proofs.requests.hear.Statement.{statement}
+use Rattle.stream.proofs.requests.hear.Tie as tie
 
 returns : tie.Need-returns
 returns c = hear-no-room streamRules _ _ (c .if1 .taken)

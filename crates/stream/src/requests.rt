@@ -1,13 +1,12 @@
-// What a line of `stream` asks and what is answered, octet by octet. How lines are heard is the crate `lines`.
-mod form;
-
+// What is answered to a line of `stream`, octet by octet. What a line asks is the module `form`, and how lines are heard the crate `lines`.
 ghost use mathlib.Core.Path.{_≡_};
 ghost use Prim.Native.Nat.{_≤_};
 ghost use lib.ListN.{length};
-ghost use Rattle.lines.specs.Text.{Answered};
-ghost use Rattle.lines.specs.Hearing.{silence, heardLine};
-ghost use Rattle.requests.specs.Answer.{answerText, answer as Answer·answer, largestAnswer};
-ghost use Rattle.requests.specs.Stream.{HearCall, FinishCall};
+ghost use Rattle.lines.specs.Text.{AtFront};
+ghost use Rattle.lines.specs.Hearing.{silence, heardLine, HearCall, FinishCall};
+ghost use Rattle.stream.specs.Answer.{answerText, answer as Answer·answer, largestAnswer};
+ghost use Rattle.stream.specs.Stream.{streamRules, standing};
+use crate::form;
 use lines::Heard;
 use lines::Put;
 
@@ -21,7 +20,7 @@ const BAD: u8 = b'?';
 const ROOM: usize = 3041;
 
 // The refusal of an octet, the state after it, and how many octets its answer has at the front of the output.
-pub struct Told {
+pub(crate) struct Told {
     pub refusal: u8,
     pub heard: Heard,
     pub written: usize,
@@ -30,7 +29,7 @@ pub struct Told {
 // Puts the text that answers a line, without its line end.
 fn put_text(line: &[u8], output: &mut [u8]) -> usize
     requires { ⌜ largestAnswer ≤ length (now output) ⌝ }
-    ensures { λ r. ⌜ Answered (answerText (now (line .entry))) (now (output .entry)) r (now (output .exit)) ⌝ }
+    ensures { λ r. ⌜ AtFront (answerText (now (line .entry))) (now (output .entry)) r (now (output .exit)) ⌝ }
 {
     let request = form::request_of(line);
     if !request.ok {
@@ -56,7 +55,7 @@ fn put_text(line: &[u8], output: &mut [u8]) -> usize
 // Puts the answer to a line.
 fn put_answer(line: &[u8], output: &mut [u8]) -> usize
     requires { ⌜ largestAnswer ≤ length (now output) ⌝ }
-    ensures { λ r. ⌜ Answered (Answer·answer (now (line .entry))) (now (output .entry)) r (now (output .exit)) ⌝ }
+    ensures { λ r. ⌜ AtFront (Answer·answer (now (line .entry))) (now (output .entry)) r (now (output .exit)) ⌝ }
 {
     let size = put_text(line, output);
     output[size] = LINE_FEED;
@@ -66,7 +65,7 @@ fn put_answer(line: &[u8], output: &mut [u8]) -> usize
 // Puts the answer to the line heard.
 fn put_heard(heard: Heard, output: &mut [u8]) -> usize
     requires { ⌜ largestAnswer ≤ length (now output) ⌝ }
-    ensures { λ r. ⌜ Answered (Answer·answer (heardLine heard)) (now (output .entry)) r (now (output .exit)) ⌝ }
+    ensures { λ r. ⌜ AtFront (Answer·answer (heardLine heard)) (now (output .entry)) r (now (output .exit)) ⌝ }
 {
     let octets = heard.octets;
     let count = heard.count;
@@ -78,15 +77,15 @@ fn put_heard(heard: Heard, output: &mut [u8]) -> usize
 }
 
 // Nothing heard yet.
-pub fn start() -> Heard
+pub(crate) fn start() -> Heard
     ensures { λ r. ⌜ r ≡ silence ⌝ }
 {
     lines::silence()
 }
 
 // Hears one octet: a line feed has the line answered and begins a new one, any other octet is kept.
-pub fn hear(heard: Heard, octet: u8, output: &mut [u8]) -> Told
-    ensures { λ r. ⌜ HearCall heard octet (now (output .entry)) r (now (output .exit)) ⌝ }
+pub(crate) fn hear(heard: Heard, octet: u8, output: &mut [u8]) -> Told
+    ensures { λ r. ⌜ HearCall streamRules (standing heard) octet (now (output .entry)) (r .refusal) (standing (r .heard)) (r .written) (now (output .exit)) ⌝ }
 {
     if output.len() < ROOM {
         return Told {
@@ -113,8 +112,8 @@ pub fn hear(heard: Heard, octet: u8, output: &mut [u8]) -> Told
 }
 
 // The input ends: puts the answer to a last line that has no line end.
-pub fn finish(heard: Heard, output: &mut [u8]) -> Put
-    ensures { λ r. ⌜ FinishCall heard (now (output .entry)) r (now (output .exit)) ⌝ }
+pub(crate) fn finish(heard: Heard, output: &mut [u8]) -> Put
+    ensures { λ r. ⌜ FinishCall streamRules (standing heard) (now (output .entry)) (r .refusal) (r .count) (now (output .exit)) ⌝ }
 {
     let refused = Put {
         refusal: refusals::ROOM,

@@ -8,10 +8,10 @@ use mathlib.Core.Bool.{true}
 use mathlib.Core.List.{List, [], _∷_, _++_}
 use lib.ListN.{length, getD, take, drop, length-append, take-append-drop, drop-of-length-le}
 use lib.Seq.{drop-drop, take-at, take-append-seam, drop-append-add, getD-append-add}
-use Rattle.lines.specs.Digits.{within, allDigits, numberOf}
+use Rattle.lines.specs.Digits.{within, allDigits, valueOf}
 use Rattle.lines.proofs.Digits.{within-both, within-from, within-to, from-place, number-of-digits, number-size, number-digits}
-use Rattle.requests.specs.Form.{RequestLine, mSize, mText, keyText, inputText, directionText, isRequest}
-use Rattle.requests.proofs.Parts.{parts-of, of-parts, length-line, length-mText, length-keyText, length-inputText}
+use Rattle.stream.specs.Form.{RequestLine, mSize, mText, keyText, inputText, directionText, isRequest}
+use Rattle.stream.proofs.Parts.{parts-of, of-parts, length-line, length-mText, length-keyText, length-inputText}
 
 -- ---- a line by its parts
 
@@ -151,7 +151,7 @@ module _ {line m key input : List ℕ} {direction : ℕ} (form : RequestLine lin
         space-2 = ap (λ (l : List ℕ). getD l (mSize l + 33) 0) (form .line-is) ∙ spaces .1;
         space-3 = ap (λ (l : List ℕ). getD l (mSize l + 42) 0) (form .line-is) ∙ spaces .2;
         m-digits = ap (allDigits 10) (sym (form-parts .0)) ∙ number-digits 10 4 m (form .m-digits);
-        m-limit = subst (λ (l : List ℕ). numberOf 10 l ≤ 1520) (form-parts .0) (form .m-limit);
+        m-limit = subst (λ (l : List ℕ). valueOf 10 l ≤ 1520) (form-parts .0) (form .m-limit);
         key-digits = ap (allDigits 16) (sym (form-parts .1)) ∙ form .key-digits;
         input-digits = ap (allDigits 16) (sym (form-parts .2)) ∙ form .input-digits;
         direction-from = subst (λ (x : ℕ). 48 ≤ x) (form-parts .3) (within-from 48 49 direction (form .direction-digit));

@@ -1,13 +1,13 @@
--- `requests::put_answer` meets its contract: a line feed after the text.
+-- `stream::requests::put_answer` meets its contract: a line feed after the text.
 -- Assumes nothing.
 use borrow.Author.Needs.{needs}
 use denote.Ref.{now}
 use native.Mathlib.Omega.{arith}
-use Rattle.lines.proofs.Answered.{answered-octet}
-use Rattle.requests.specs.Answer.{ended, answer}
-use Rattle.requests.proofs.Answers.{length-answerText}
-use Rattle.requests.proofs.put_answer.Statement.{statement}
-use Rattle.requests.proofs.put_answer.Tie as tie
+use Rattle.lines.proofs.Placed.{at-front-octet}
+use Rattle.stream.specs.Answer.{ended, answer}
+use Rattle.stream.proofs.Answers.{length-answerText}
+use Rattle.stream.proofs.requests.put_answer.Statement.{statement}
+use Rattle.stream.proofs.requests.put_answer.Tie as tie
 
 put-text-requires : tie.Need-put-text-requires
 put-text-requires c κs = search needs
@@ -23,7 +23,7 @@ same-length c = search needs
 
 returns : tie.Need-returns
 unfolding answer ended
-returns c = answered-octet 10 (c .before .before .put-text .ensures) (omega (arith, length-answerText (now (c .before .before .before .before .before .before .args .line))))
+returns c = at-front-octet 10 (c .before .before .put-text .ensures) (omega (arith, length-answerText (now (c .before .before .before .before .before .before .args .line))))
 
 pub put-answer-spec : {M : Type 1} → statement M
 put-answer-spec =

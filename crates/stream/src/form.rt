@@ -1,6 +1,6 @@
 // The form of a line of `stream`: M, key, INPUT and direction, with one space between.
 ghost use mathlib.Core.Path.{_≡_};
-ghost use Rattle.requests.specs.Form.{requestOf};
+ghost use Rattle.stream.specs.Form.{requestOf};
 
 // What stands after the digits of M has a fixed size.
 const AFTER_M: usize = 44;

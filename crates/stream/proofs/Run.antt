@@ -7,8 +7,8 @@ use Rattle.lines.specs.declared.Heard.{Heard}
 use Rattle.lines.specs.Hearing.{silence}
 use Rattle.lines.specs.Lines.{Run}
 use Rattle.lines.proofs.Run.{run-writes-answers}
-use Rattle.requests.specs.Stream.{streamRules, standing, streamOutput}
-use Rattle.requests.proofs.Answers.{stream-alike}
+use Rattle.stream.specs.Stream.{streamRules, standing, streamOutput}
+use Rattle.stream.proofs.Answers.{stream-alike}
 
 -- the whole run, from `start`, whose line is silence, writes what `stream` is to write
 pub run-writes-stream : {heard : Heard} {input output : List ℕ} → heard ≡ silence → Run streamRules (standing heard) input output → output ≡ streamOutput input

@@ -1,10 +1,10 @@
--- `requests::finish` meets its contract: a last line is answered where one was heard and there is room.
+-- `stream::requests::finish` meets its contract: a last line is answered where one was heard and there is room.
 -- Assumes nothing.
 use Rattle.lines.proofs.Calls.{finish-no-room, finish-empty, finish-line}
-use Rattle.requests.specs.Stream.{streamRules}
+use Rattle.stream.specs.Stream.{streamRules}
 use borrow.Author.Needs.{needs}
-use Rattle.requests.proofs.finish.Statement.{statement}
-use Rattle.requests.proofs.finish.Tie as tie
+use Rattle.stream.proofs.requests.finish.Statement.{statement}
+use Rattle.stream.proofs.requests.finish.Tie as tie
 
 returns : tie.Need-returns
 returns c = finish-no-room streamRules _ (c .if1 .taken)

@@ -1,4 +1,4 @@
--- `requests::put_heard` meets its contract: one line stands for every line that is too long.
+-- `stream::requests::put_heard` meets its contract: one line stands for every line that is too long.
 -- Assumes nothing.
 use lib.ListN.{length}
 use lib.Seq.{length-take-le}
@@ -6,8 +6,8 @@ use mathlib.Core.Path.{_≡_, sym, _∙_}
 use native.Mathlib.Omega.{arith}
 use Rattle.lines.proofs.Calls.{line-kept, line-too-long}
 use borrow.Author.Needs.{needs}
-use Rattle.requests.proofs.put_heard.Statement.{statement}
-use Rattle.requests.proofs.put_heard.Tie as tie
+use Rattle.stream.proofs.requests.put_heard.Statement.{statement}
+use Rattle.stream.proofs.requests.put_heard.Tie as tie
 
 -- the line so far has 48 places
 forty-eight : (c : tie.Else1) → length (c .before .before .before .args .heard .octets) ≡ 48
