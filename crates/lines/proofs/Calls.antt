@@ -1,17 +1,15 @@
 -- How a program meets the contracts of hearing: what it has to show where there is no room, at a line feed, at any other octet and at the input's end.
 -- Assumes nothing.
 use Prim.Native.Nat.{ℕ, _≤_, _<_}
-use native.Mathlib.Nat.{le-trans}
-use mathlib.Core.Path.{_≡_, refl, sym, _∙_}
-use mathlib.Core.List.{List, [], _∷_}
+use mathlib.Core.Path.{_≡_, refl}
+use mathlib.Core.List.{List}
 use borrow.Author.Tests.{eq-eqb, ne-eqb, le-leb, lt-leb}
 use lib.ListN.{length, take}
-use Rattle.refusals.specs.Call.{Answered}
 use Rattle.lines.specs.declared.Heard.{Heard}
-use Rattle.lines.specs.Text.{roomOrder, putsText, putTextCall, AtFront}
+use Rattle.lines.specs.Text.{AtFront}
 use Rattle.lines.specs.Hearing.{silence, kept, tooLong, heardLine, Rules, Standing, hearing, heardAnswer, said, lastSaid, HearCall, FinishCall}
 use Rattle.lines.proofs.Placed.{at-front-nothing}
-use Rattle.lines.proofs.Text.{room-enough, put-short, put-fits}
+use Rattle.lines.proofs.Text.{put-short, put-fits}
 
 -- the line heard, where it is kept whole, and where it is too long
 pub line-kept : (heard : Heard) → heard .count ≤ 48 → heardLine heard ≡ take (heard .count) (heard .octets)
@@ -21,15 +19,6 @@ line-kept heard short = rw (le-leb (heard .count) 48 short)
 pub line-too-long : (heard : Heard) → 48 < heard .count → heardLine heard ≡ tooLong
 unfolding heardLine
 line-too-long heard long = rw (lt-leb (heard .count) 48 long)
-
--- a text that was put, where the output has more room than it asks, is put where that room is asked
-pub put-in-room : (room : ℕ) (text before : List ℕ) {refusal count : ℕ} {after : List ℕ} → length text ≤ room → room ≤ length before
-    → Answered (putTextCall text before) refusal (count ∷ []) after → Answered (putsText (roomOrder room before) text before) refusal (count ∷ []) after
-put-in-room room text before few enough answered = record {
-  refusal-is = answered .refusal-is ∙ room-enough (length text) before (le-trans few enough) ∙ sym (room-enough room before enough);
-  numbers-are = answered .numbers-are;
-  lent-is = answered .lent-is;
-}
 
 module _ {S : Type 0} (rules : Rules S) (at : Standing S) {before : List ℕ} where
   -- where there is no room nothing happens
