@@ -3,7 +3,6 @@
 ghost use mathlib.Core.Path.{_≡_};
 ghost use Prim.Native.Nat.{_≤_};
 ghost use lib.ListN.{length};
-ghost use Rattle.io.specs.Counts.{Counts};
 use libc::STDIN_FILENO;
 use libc::STDOUT_FILENO;
 
@@ -43,25 +42,11 @@ fn told(sum: u8) {
     io::write_all(STDOUT_FILENO, b"\n");
 }
 
-// Where the first octet of a kind stands, or the end.
-fn place_of(text: &[u8], octet: u8) -> usize
-    ensures { λ r. ⌜ Counts r (now (text .entry)) ⌝ }
-{
-    let mut i = 0;
-    while i < text.len() {
-        if text[i] == octet {
-            return i;
-        }
-        i += 1;
-    }
-    i
-}
-
 // A number up to `most`, at the start of a text, before an octet; 0 where there is none.
 fn number_before(text: &[u8], octet: u8, most: u64) -> u64
     ensures { λ r. ⌜ r ≤ most ⌝ }
 {
-    let end = place_of(text, octet);
+    let end = bytes::scan::find(text, 0, text.len(), octet);
     let read = lines::decimal(&text[..end]);
     if most < read.value {
         return 0;
@@ -71,7 +56,7 @@ fn number_before(text: &[u8], octet: u8, most: u64) -> u64
 
 // What stands after the first octet of a kind.
 fn after(text: &[u8], octet: u8) -> &[u8] {
-    let end = place_of(text, octet);
+    let end = bytes::scan::find(text, 0, text.len(), octet);
     if end < text.len() {
         return &text[end + 1..];
     }

@@ -2,13 +2,12 @@
 -- Assumes nothing.
 use Prim.Native.Nat.{ℕ, _+_, _/_, _%_, _≤_}
 use mathlib.Core.Path.{_≡_, refl, sym}
-use mathlib.Core.Bool.{true, false}
+use mathlib.Core.Bool.{true, false, and-eq-true-iff}
 use mathlib.Core.List.{List, []}
 use borrow.Author.Tests.{le-leb, leb-true, eq-eqb, ne-eqb, eqb-true, not-false}
 use lib.ListN.{length, getD}
 use Rattle.refusals.specs.Refusal.{first, rowAt}
 use Rattle.refusals.proofs.Laws.{then-and-only-then}
-use Rattle.refusals.proofs.Tests.{both}
 use Rattle.frames.specs.declared.Header.{Header}
 use Rattle.frames.specs.Frame.{pairAt, isWhole, hasZeroBits, isHeader, payloadOf, lookOrder, looked}
 
@@ -34,9 +33,9 @@ module _ (octets : List ℕ) where
   pub whole-says : isWhole octets ≡ true → Whole octets
   unfolding isWhole
   whole-says h =
-      let outer = both _ _ h in
-      let inner = both _ _ (outer .1) in
-      let last = both _ _ (inner .1) in
+      let outer = and-eq-true-iff _ _ .0 h in
+      let inner = and-eq-true-iff _ _ .0 (outer .1) in
+      let last = and-eq-true-iff _ _ .0 (inner .1) in
       record {
         seven-least = leb-true _ _ (outer .0);
         count-least = leb-true _ _ (inner .0);
@@ -51,7 +50,7 @@ module _ (octets : List ℕ) where
   pub zero-bits-say : hasZeroBits octets ≡ true → ZeroBits octets
   unfolding hasZeroBits
   zero-bits-say h =
-      let halves = both _ _ h in
+      let halves = and-eq-true-iff _ _ .0 h in
       record { service = eqb-true _ _ (halves .0); sent = eqb-true _ _ (halves .1) }
 
   pub say-zero-bits : ZeroBits octets → hasZeroBits octets ≡ true
@@ -62,8 +61,8 @@ module _ (header : Header) where
   pub header-says : isHeader header ≡ true → InRange header
   unfolding isHeader
   header-says h =
-      let outer = both _ _ h in
-      let inner = both _ _ (outer .1) in
+      let outer = and-eq-true-iff _ _ .0 h in
+      let inner = and-eq-true-iff _ _ .0 (outer .1) in
       record { sapi-most = leb-true _ _ (outer .0); direction-most = leb-true _ _ (inner .0); sent-most = leb-true _ _ (inner .1) }
 
   pub says-header : InRange header → isHeader header ≡ true

@@ -5,11 +5,10 @@ use native.Mathlib.Omega.{arith}
 use native.Mathlib.Decide.{decLe}
 use native.Mathlib.Nat.{pos-of-ne-zero}
 use mathlib.Core.Path.{_≡_, refl, sym}
-use mathlib.Core.Bool.{Bool, true, false, _||_, false≢true}
+use mathlib.Core.Bool.{Bool, true, false, _||_, false≢true, and-eq-true-iff}
 use borrow.Author.Tests.{le-leb, lt-leb, leb-true, lt-ltb, le-ltb, ltb-true, eq-eqb, eqb-true, eqb-false, ne-eqb}
 use lib.Bits.{bitOr}
 use lib.Dec.{eqb, leb, ltb}
-use Rattle.refusals.proofs.Tests.{both}
 use Rattle.numbering.specs.declared.Numbering.{Numbering}
 use Rattle.numbering.specs.Numbering.{end, marksOf, numberingOf, mark, isAccepted, accepted, canArise}
 
@@ -46,8 +45,8 @@ module _ (w : ℕ) (state : Numbering) where
   pub can-arise-says : canArise w state ≡ true → CanArise w state
   unfolding canArise
   can-arise-says h =
-      let outer = both (leb (state .next) end) _ h in
-      let inner = both (ltb (marksOf state) (2 ^ min w (state .next))) _ (outer .1) in
+      let outer = and-eq-true-iff (leb (state .next) end) _ .0 h in
+      let inner = and-eq-true-iff (ltb (marksOf state) (2 ^ min w (state .next))) _ .0 (outer .1) in
       record {
         not-past = leb-true _ _ (outer .0);
         within = ltb-true _ _ (inner .0);

@@ -1,15 +1,15 @@
--- The laws of a refusal order: the first cause that holds is named, then and only then; a refused call keeps what it was lent.
+-- The laws of a refusal order: the first cause that holds is named, then and only then.
 -- Assumes nothing.
 use Prim.Native.Nat.{ℕ, zero, suc, _<_, zero-le, suc-le-suc}
 use native.Mathlib.Nat.{not-suc-le-zero, le-of-suc-le-suc}
-use mathlib.Core.Path.{_≡_, refl, sym, _∙_, ap, subst}
+use mathlib.Core.Path.{_≡_, refl, sym, _∙_, subst}
 use mathlib.Core.Bool.{Bool, true, false, cond, not, _&&_}
 use mathlib.Core.List.{List, [], _∷_, _++_}
-use borrow.Author.Tests.{eq-eqb, ne-eqb}
+use borrow.Author.Tests.{eq-eqb}
 use lib.Dec.{T, eqb}
-use lib.ListN.{length, drop}
+use lib.ListN.{length}
 use Rattle.refusals.proofs.Tests.{and-left, and-right, by-test}
-use Rattle.refusals.specs.Refusal.{Row, first, lent, rowAt, FirstAt, ThenAndOnlyThen}
+use Rattle.refusals.specs.Refusal.{Row, first, rowAt, FirstAt, ThenAndOnlyThen}
 use Rattle.refusals.proofs.Orders.{absent, distinct}
 
 -- a test that failed, as two numbers that are not the same
@@ -119,17 +119,3 @@ first-append (row ∷ rest) more d =
     by-test (row .holds) (first ((row ∷ rest) ++ more) ≡ cond (eqb (first (row ∷ rest)) 0) (first more) (first (row ∷ rest)))
     (λ held. rw (held, named))
     (λ passed. rw passed (first-append rest more (and-right (not (eqb (row .number) 0) && absent (row .number) rest) (distinct rest) d)))
-
--- a refusal keeps a lent buffer, and a success puts its result to the front
-pub lent-refused : (refusal : ℕ) (result before : List ℕ) → (refusal ≡ 0 → ⊥) → lent refusal result before ≡ before
-unfolding lent
-lent-refused refusal result before h = rw (ne-eqb refusal 0 h)
-
-pub lent-done : (result before : List ℕ) → lent 0 result before ≡ result ++ drop (length result) before
-unfolding lent
-lent-done result before = refl
-
--- where two calls have the same refusal and result, what they leave in a lent buffer is the same
-pub lent-same : {refusal refusal′ : ℕ} (result before : List ℕ) {after after′ : List ℕ} → refusal ≡ refusal′
-    → after ≡ lent refusal result before → after′ ≡ lent refusal′ result before → after ≡ after′
-lent-same result before same e e′ = e ∙ ap (λ (n : ℕ). lent n result before) same ∙ sym e′

@@ -1,12 +1,11 @@
--- The refusal rule of document 01: of several causes the first in a call's order is named, and no lent octet changes.
+-- The refusal rule of document 01: of several causes the first in a call's order is named.
 -- Assumes nothing.
 use Prim.Native.Nat.{ℕ, _<_}
 use mathlib.Core.Path.{_≡_}
 use mathlib.Core.Logic.{_↔_}
 use mathlib.Core.Bool.{Bool, true, false, cond}
-use mathlib.Core.List.{List, [], _∷_, _++_}
-use lib.Dec.{eqb}
-use lib.ListN.{length, getD, drop}
+use mathlib.Core.List.{List, [], _∷_}
+use lib.ListN.{length, getD}
 
 -- the last number of the table; the first is 1
 abbrev pub lastRefusal : ℕ
@@ -21,10 +20,6 @@ pub record Row : Type 0 where
 unfoldable pub first : List Row → ℕ
 first [] = 0
 first (row ∷ rest) = cond (row .holds) (row .number) (first rest)
-
--- what a lent buffer holds after a call: a refusal keeps it; a success puts the result to its front and keeps the octets past it
-unfoldable pub lent : ℕ → List ℕ → List ℕ → List ℕ
-lent refusal result before = cond (eqb refusal 0) (result ++ drop (length result) before) before
 
 -- row k of an order, from 0; past its end a row that never holds
 unfoldable pub rowAt : List Row → ℕ → Row

@@ -1,12 +1,15 @@
 // Reads lines of M, key, INPUT and direction, and writes for each the GEA4 octets as capital hex, a refusal's number, or `?`.
-// It only moves octets: what is asked and what is answered is the crate `requests`.
+// It only moves octets: what is asked is the module `form`, and what is answered the module `requests`.
+mod form;
+mod requests;
+
 ghost use mathlib.Core.Bool.{true};
 ghost use mathlib.Core.Path.{_≡_};
 ghost use Prim.Native.Nat.{_≤_};
 ghost use lib.ListN.{length};
 ghost use Rattle.lines.specs.Hearing.{heardAfter};
-ghost use Rattle.requests.specs.Answer.{largestAnswer};
-ghost use Rattle.requests.specs.Stream.{streamRules, standing};
+ghost use Rattle.stream.specs.Answer.{largestAnswer};
+ghost use Rattle.stream.specs.Stream.{streamRules, standing};
 use libc::STDIN_FILENO;
 use libc::STDOUT_FILENO;
 use lines::Heard;

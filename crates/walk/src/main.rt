@@ -1,11 +1,13 @@
 // Reads one N a line, walks a receiver's numbering along them, and writes for each N, the candidate, the answer and V afterwards.
-// It only moves octets: what a line sends and what is answered is the crate `walks`.
+// It only moves octets: what a line sends and what is answered is the module `walks`.
+mod walks;
+
 ghost use mathlib.Core.Bool.{true};
 ghost use mathlib.Core.Path.{_≡_};
 ghost use Prim.Native.Nat.{_≤_};
 ghost use lib.ListN.{length};
 ghost use Rattle.lines.specs.Hearing.{heardAfter};
-ghost use Rattle.walks.specs.Walk.{room, walkRules, standing};
+ghost use Rattle.walk.specs.Walk.{room, walkRules, standing};
 use libc::STDIN_FILENO;
 use libc::STDOUT_FILENO;
 use walks::Walk;

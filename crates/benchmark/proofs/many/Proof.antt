@@ -1,9 +1,9 @@
 -- `benchmark::many` is safe and ends: the output keeps its length from call to call.
 -- Assumes nothing.
-use Prim.Native.Nat.{ℕ, _-_, _≤_}
+use Prim.Native.Nat.{_-_, _≤_}
 use borrow.Author.Needs.{needs}
 use lib.ListN.{length}
-use mathlib.Core.Path.{_≡_, refl, _∙_}
+use mathlib.Core.Path.{_≡_, refl}
 use native.Mathlib.Omega.{arith}
 use Rattle.benchmark.proofs.many.Statement.{statement}
 use Rattle.benchmark.proofs.many.Tie as tie

@@ -1,6 +1,6 @@
 -- `benchmark::sum_of` is safe and ends.
 -- Assumes nothing.
-use Prim.Native.Nat.{ℕ, _-_, _≤_}
+use Prim.Native.Nat.{_-_, _≤_}
 use borrow.Author.Needs.{needs}
 use lib.ListN.{length}
 use Rattle.benchmark.proofs.sum_of.Statement.{statement}

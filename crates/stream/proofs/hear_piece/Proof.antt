@@ -12,8 +12,8 @@ use native.Mathlib.Omega.{arith}
 use Rattle.lines.specs.Hearing.{Standing, heardAfter}
 use Rattle.lines.proofs.Hearing.{heard-next, heard-all}
 use Rattle.lines.proofs.Run.{then-hearing}
-use Rattle.lines.proofs.Within.{put-within}
-use Rattle.requests.specs.Stream.{streamRules, standing}
+use Rattle.lines.proofs.Callers.{put-within}
+use Rattle.stream.specs.Stream.{streamRules, standing}
 use Rattle.stream.proofs.hear_piece.Statement.{statement}
 use Rattle.stream.proofs.hear_piece.Tie as tie
 
@@ -26,7 +26,7 @@ abbrev μ-loop : tie.MeasureT-loop
 
 -- what is written is within the output
 within : (c : tie.After-hear Inv-loop μ-loop) → c .hear .result .written ≤ length (c .hear .last .1 .1 .0)
-within c = put-within (c .hear .ensures .said-is)
+within c = put-within _ _ _ (c .hear .ensures .said-is)
 
 -- which keeps its length
 length-kept : (c : tie.After-hear Inv-loop μ-loop) → length (c .hear .last .1 .1 .0) ≡ length (now (c .before .before .before .before .before .before .before .args .output))

@@ -5,12 +5,12 @@ use borrow.Author.Needs.{needs}
 use lib.ListN.{length}
 use lib.Seq.{length-take-le}
 use mathlib.Core.Path.{sym}
-use Rattle.lines.proofs.Within.{put-within}
+use Rattle.lines.proofs.Callers.{put-within}
 use Rattle.stream.proofs.main.Statement.{statement}
 use Rattle.stream.proofs.main.Tie as tie
 
 within : (c : tie.After-finish) → c .finish .result .count ≤ length (c .finish .last .1 .0)
-within c = put-within (c .finish .ensures .said-is)
+within c = put-within _ _ _ (c .finish .ensures .said-is)
 
 slice-aggregate-move-all : tie.Need-slice-aggregate-move-all
 slice-aggregate-move-all c = search needs

@@ -4,16 +4,16 @@ use Prim.Native.Nat.{_≤_}
 use lib.ListN.{length}
 use lib.Seq.{length-take-le}
 use mathlib.Core.Path.{sym}
-use Rattle.lines.proofs.Within.{put-within}
+use Rattle.lines.proofs.Callers.{put-within}
 use borrow.Author.Needs.{needs}
 use Rattle.walk.proofs.main.Statement.{statement}
 use Rattle.walk.proofs.main.Tie as tie
 
 header-inside : (c : tie.After-header) → c .header .result .count ≤ length (c .header .last .0)
-header-inside c = put-within (c .header .ensures)
+header-inside c = put-within _ _ _ (c .header .ensures)
 
 finish-inside : (c : tie.After-finish) → c .finish .result .count ≤ length (c .finish .last .1 .0)
-finish-inside c = put-within (c .finish .ensures .said-is)
+finish-inside c = put-within _ _ _ (c .finish .ensures .said-is)
 
 slice-aggregate-header : tie.Need-slice-aggregate-header
 slice-aggregate-header c = search needs
