@@ -13,6 +13,9 @@ use std::fmt;
 /// A key that everybody may know.
 const KEY: [u8; 16] = [0, 1, 2, 3, 4, 5, 6, 7, 8, 9, 10, 11, 12, 13, 14, 15];
 
+/// An offset other than 0, so that adding it in another way gives other octets.
+const IOV: u32 = 0x0123_4567;
+
 /// The words of the refusal table, by their numbers.
 const REASONS: [&str; 12] = [
     "key", "range", "size", "room", "length", "version", "spare", "other", "start", "end",
@@ -117,8 +120,8 @@ struct Bench {
 
 impl Bench {
     fn new() -> Bench {
-        let (_, phone) = open_sender(&KEY, 0, 3, 0);
-        let (_, cell) = open_receiver(&KEY, 0, 3, 0);
+        let (_, phone) = open_sender(&KEY, IOV, 3, 0);
+        let (_, cell) = open_receiver(&KEY, IOV, 3, 0);
         Bench { phone, cell, shelf: Default::default(), kept: None }
     }
 

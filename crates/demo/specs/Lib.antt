@@ -1,4 +1,5 @@
-pub mod Bench
 pub mod Columns
 pub mod Ends
+pub mod Play
 pub mod Script
+pub mod Words
