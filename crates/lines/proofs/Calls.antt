@@ -3,14 +3,15 @@
 use Prim.Native.Nat.{ℕ, _≤_, _<_}
 use native.Mathlib.Nat.{le-trans}
 use mathlib.Core.Path.{_≡_, refl, sym, _∙_}
-use mathlib.Core.List.{List}
+use mathlib.Core.List.{List, [], _∷_}
 use borrow.Author.Tests.{eq-eqb, ne-eqb, le-leb, lt-leb}
 use lib.ListN.{length, take}
+use Rattle.refusals.specs.Call.{Answered}
 use Rattle.lines.specs.declared.Heard.{Heard}
-use Rattle.lines.specs.Text.{roomOrder, PutCall, TextCall, Answered}
+use Rattle.lines.specs.Text.{roomOrder, putsText, putTextCall, AtFront}
 use Rattle.lines.specs.Hearing.{silence, kept, tooLong, heardLine, Rules, Standing, hearing, heardAnswer, said, lastSaid, HearCall, FinishCall}
-use Rattle.lines.proofs.Answered.{answered-nothing}
-use Rattle.lines.proofs.Text.{room-enough, put-allowed, put-short}
+use Rattle.lines.proofs.Placed.{at-front-nothing}
+use Rattle.lines.proofs.Text.{room-enough, put-short, put-fits}
 
 -- the line heard, where it is kept whole, and where it is too long
 pub line-kept : (heard : Heard) → heard .count ≤ 48 → heardLine heard ≡ take (heard .count) (heard .octets)
@@ -21,49 +22,43 @@ pub line-too-long : (heard : Heard) → 48 < heard .count → heardLine heard �
 unfolding heardLine
 line-too-long heard long = rw (lt-leb (heard .count) 48 long)
 
--- an answer that there is room for is put
-answered : (room : ℕ) {text before : List ℕ} {written : ℕ} {after : List ℕ} → room ≤ length before → Answered text before written after
-    → PutCall (roomOrder room before) text before 0 written after
-answered room {text} {before} {written} {after} enough put =
-    put-allowed text before after written (room-enough room before enough) (sym (put .written-is)) (put .output-is)
-
 -- a text that was put, where the output has more room than it asks, is put where that room is asked
-pub put-in-room : (room : ℕ) {text before : List ℕ} {refusal count : ℕ} {after : List ℕ} → length text ≤ room → room ≤ length before
-    → TextCall text before refusal count after → PutCall (roomOrder room before) text before refusal count after
-put-in-room room {text} {before} few enough call = record {
-  refusal-is = call .refusal-is ∙ room-enough (length text) before (le-trans few enough) ∙ sym (room-enough room before enough);
-  count-is = call .count-is;
-  output-is = call .output-is;
+pub put-in-room : (room : ℕ) (text before : List ℕ) {refusal count : ℕ} {after : List ℕ} → length text ≤ room → room ≤ length before
+    → Answered (putTextCall text before) refusal (count ∷ []) after → Answered (putsText (roomOrder room before) text before) refusal (count ∷ []) after
+put-in-room room text before few enough answered = record {
+  refusal-is = answered .refusal-is ∙ room-enough (length text) before (le-trans few enough) ∙ sym (room-enough room before enough);
+  numbers-are = answered .numbers-are;
+  lent-is = answered .lent-is;
 }
 
 module _ {S : Type 0} (rules : Rules S) (at : Standing S) {before : List ℕ} where
   -- where there is no room nothing happens
   pub hear-no-room : (octet : ℕ) → length before < rules .room → HearCall rules at octet before 4 at 0 before
-  hear-no-room octet short = record { said-is = put-short (rules .room) _ before short; then-is = refl }
+  hear-no-room octet short = record { said-is = put-short (rules .room) before _ short; then-is = refl }
 
   pub finish-no-room : length before < rules .room → FinishCall rules at before 4 0 before
-  finish-no-room short = record { said-is = put-short (rules .room) _ before short }
+  finish-no-room short = record { said-is = put-short (rules .room) before _ short }
 
   module _ (room : rules .room ≤ length before) where
     -- a line feed has the line heard answered, and a new one begins
     pub hear-feed : {octet : ℕ} {then : Standing S} {written : ℕ} {after : List ℕ} → octet ≡ 10
         → then ≡ record { state = rules .after (at .state) (heardLine (at .heard)); heard = silence }
-        → Answered (rules .answer (at .state) (heardLine (at .heard))) before written after → HearCall rules at octet before 0 then written after
+        → AtFront (rules .answer (at .state) (heardLine (at .heard))) before written after → HearCall rules at octet before 0 then written after
     unfolding hearing said heardAnswer
-    hear-feed feed is put = record { said-is = rw (eq-eqb _ _ feed) (answered (rules .room) room put); then-is = rw (eq-eqb _ _ feed) is }
+    hear-feed feed is put = record { said-is = rw (eq-eqb _ _ feed) (put-fits (rules .room) before room put); then-is = rw (eq-eqb _ _ feed) is }
 
     -- any other octet is kept
     pub hear-other : {octet : ℕ} {then : Standing S} → (octet ≡ 10 → ⊥)
         → then ≡ record { state = at .state; heard = kept (at .heard) octet } → HearCall rules at octet before 0 then 0 before
     unfolding hearing said
-    hear-other other is = record { said-is = rw (ne-eqb _ _ other) (answered (rules .room) room (answered-nothing before)); then-is = rw (ne-eqb _ _ other) is }
+    hear-other other is = record { said-is = rw (ne-eqb _ _ other) (put-fits (rules .room) before room (at-front-nothing before)); then-is = rw (ne-eqb _ _ other) is }
 
     -- at the end nothing is answered where nothing was heard, and else the last line
     pub finish-empty : at .heard .count ≡ 0 → FinishCall rules at before 0 0 before
     unfolding lastSaid
-    finish-empty none = record { said-is = rw (eq-eqb _ _ none) (answered (rules .room) room (answered-nothing before)) }
+    finish-empty none = record { said-is = rw (eq-eqb _ _ none) (put-fits (rules .room) before room (at-front-nothing before)) }
 
     pub finish-line : {written : ℕ} {after : List ℕ} → (at .heard .count ≡ 0 → ⊥)
-        → Answered (rules .answer (at .state) (heardLine (at .heard))) before written after → FinishCall rules at before 0 written after
+        → AtFront (rules .answer (at .state) (heardLine (at .heard))) before written after → FinishCall rules at before 0 written after
     unfolding lastSaid heardAnswer
-    finish-line some put = record { said-is = rw (ne-eqb _ _ some) (answered (rules .room) room put) }
+    finish-line some put = record { said-is = rw (ne-eqb _ _ some) (put-fits (rules .room) before room put) }

@@ -1,36 +1,20 @@
--- The laws of digits and of the numbers that texts of digits write: `digitValue`, `allDigits`, `numberFrom`.
+-- The laws of digits and of the numbers that texts of digits write: `digitValue`, `allDigits`, `valueFrom`, `isNumber`.
 -- Assumes nothing.
 use Prim.Native.Nat.{ℕ, zero, suc, _+_, _-_, _*_, _^_, _≤_, _<_}
 use native.Mathlib.Nat.{add-zero, zero-add, not-suc-le-zero, le-of-suc-le-suc, pow-zero, pow-suc, pow-le-pow-right, lt-of-lt-of-le, le-trans}
 use native.Mathlib.Numerals.{add-one}
 use native.Mathlib.Omega.{arith}
-use mathlib.Core.Path.{_≡_, refl, sym, ap, subst, _∙_}
-use mathlib.Core.Bool.{Bool, true, false, _&&_}
+use mathlib.Core.Path.{_≡_, ap, subst, _∙_}
+use mathlib.Core.Bool.{true, false, _&&_, and-eq-true-iff}
 use mathlib.Core.List.{List, [], _∷_}
 use borrow.Author.Tests.{le-leb, lt-leb, lt-ltb, le-ltb, leb-true, ltb-true}
 use lib.Arith.{digits-lt}
-use lib.Dec.{T, leb, ltb, lit<}
+use lib.Dec.{leb, ltb, lit<}
 use lib.ListN.{length, getD, drop}
 use lib.Seq.{drop-cons, drop-length}
-use Rattle.lines.specs.Digits.{within, digitValue, allDigits, numberFrom, numberOf, isNumber}
+use Rattle.lines.specs.Digits.{within, digitValue, allDigits, valueFrom, valueOf, isNumber}
 
--- ---- tests, tests joined, and a test of a range
-
--- a choice by a test: what is shown on each side is shown
-pub by-test : {P : Type 0} (b : Bool) → (b ≡ true → P) → (b ≡ false → P) → P
-by-test true held failed = held refl
-by-test false held failed = failed refl
-
-pub and-left : (a b : Bool) → (a && b) ≡ true → a ≡ true
-and-left true b e = refl
-and-left false b e = e
-
-pub and-right : (a b : Bool) → (a && b) ≡ true → b ≡ true
-and-right true b e = e
-and-right false b e = absurd (subst T (sym e) tt)
-
-pub and-both : (a b : Bool) → a ≡ true → b ≡ true → (a && b) ≡ true
-and-both a b p q = rw (p, q)
+-- ---- a test of a range
 
 pub within-both : (low high x : ℕ) → low ≤ x → x ≤ high → within low high x ≡ true
 unfolding within
@@ -46,11 +30,11 @@ within-above low high x from above = rw (le-leb low x from, lt-leb x high above)
 
 pub within-from : (low high x : ℕ) → within low high x ≡ true → low ≤ x
 unfolding within
-within-from low high x e = leb-true low x (and-left (leb low x) (leb x high) e)
+within-from low high x e = leb-true low x (and-eq-true-iff _ _ .0 e .0)
 
 pub within-to : (low high x : ℕ) → within low high x ≡ true → x ≤ high
 unfolding within
-within-to low high x e = leb-true x high (and-right (leb low x) (leb x high) e)
+within-to low high x e = leb-true x high (and-eq-true-iff (leb low x) _ .0 e .1)
 
 -- ---- the value of an octet, by the range that it lies in
 
@@ -95,22 +79,22 @@ pub digits-end : (base : ℕ) (text : List ℕ) (i : ℕ) → i ≡ length text 
 unfolding allDigits
 digits-end base text i end = ap (λ (n : ℕ). allDigits base (drop n text)) end ∙ ap (allDigits base) (drop-length text)
 
-pub number-end : (base value : ℕ) (text : List ℕ) (i : ℕ) → i ≡ length text → numberFrom base value (drop i text) ≡ value
-unfolding numberFrom
-number-end base value text i end = ap (λ (n : ℕ). numberFrom base value (drop n text)) end ∙ ap (numberFrom base value) (drop-length text)
+pub number-end : (base value : ℕ) (text : List ℕ) (i : ℕ) → i ≡ length text → valueFrom base value (drop i text) ≡ value
+unfolding valueFrom
+number-end base value text i end = ap (λ (n : ℕ). valueFrom base value (drop n text)) end ∙ ap (valueFrom base value) (drop-length text)
 
 pub number-step : (base value : ℕ) (text : List ℕ) (i : ℕ) → i < length text
-    → numberFrom base value (drop i text) ≡ numberFrom base (value * base + digitValue (getD text i 0)) (drop (i + 1) text)
-unfolding numberFrom
-number-step base value text i inside = ap (numberFrom base value) (from-place text i inside)
+    → valueFrom base value (drop i text) ≡ valueFrom base (value * base + digitValue (getD text i 0)) (drop (i + 1) text)
+unfolding valueFrom
+number-step base value text i inside = ap (valueFrom base value) (from-place text i inside)
 
 -- each digit of a text of digits is below the base
 pub digit-below : (base : ℕ) (text : List ℕ) (i : ℕ) → i < length text → allDigits base text ≡ true → digitValue (getD text i 0) < base
 unfolding allDigits
 digit-below base [] i inside all = absurd (not-suc-le-zero inside)
-digit-below base (octet ∷ rest) zero inside all = ltb-true (digitValue octet) base (and-left (ltb (digitValue octet) base) (allDigits base rest) all)
+digit-below base (octet ∷ rest) zero inside all = ltb-true (digitValue octet) base (and-eq-true-iff _ _ .0 all .0)
 digit-below base (octet ∷ rest) (suc i) inside all =
-    digit-below base rest i (le-of-suc-le-suc inside) (and-right (ltb (digitValue octet) base) (allDigits base rest) all)
+    digit-below base rest i (le-of-suc-le-suc inside) (and-eq-true-iff (ltb (digitValue octet) base) _ .0 all .1)
 
 -- a number of i digits stays below base ^ i
 pub one-digit-more : (base value next i : ℕ) → value < base ^ i → next < base → value * base + next < base ^ (i + 1)
@@ -124,21 +108,21 @@ number-fits base value next i most below digit room fits =
 -- ---- a whole number
 
 -- digits after a value below base ^ i write a number below base ^ (i + their count)
-below-after : (base value i : ℕ) (text : List ℕ) → value < base ^ i → allDigits base text ≡ true → numberFrom base value text < base ^ (i + length text)
-unfolding allDigits numberFrom
+below-after : (base value i : ℕ) (text : List ℕ) → value < base ^ i → allDigits base text ≡ true → valueFrom base value text < base ^ (i + length text)
+unfolding allDigits valueFrom
 below-after base value i [] below all = rw (add-zero i) below
 below-after base value i (octet ∷ rest) below all =
-    let digit : digitValue octet < base = ltb-true (digitValue octet) base (and-left (ltb (digitValue octet) base) (allDigits base rest) all) in
+    let digit : digitValue octet < base = ltb-true (digitValue octet) base (and-eq-true-iff _ _ .0 all .0) in
     let again : i + 1 + length rest ≡ i + suc (length rest) = omega arith in
-    subst (λ (n : ℕ). numberFrom base (value * base + digitValue octet) rest < base ^ n) again
+    subst (λ (n : ℕ). valueFrom base (value * base + digitValue octet) rest < base ^ n) again
     (below-after base (value * base + digitValue octet) (i + 1) rest (one-digit-more base value (digitValue octet) i below digit)
-    (and-right (ltb (digitValue octet) base) (allDigits base rest) all))
+    (and-eq-true-iff (ltb (digitValue octet) base) _ .0 all .1))
 
 -- a text of n digits writes a number below base ^ n
-pub number-below : (base : ℕ) (text : List ℕ) → allDigits base text ≡ true → numberOf base text < base ^ length text
-unfolding numberOf
+pub number-below : (base : ℕ) (text : List ℕ) → allDigits base text ≡ true → valueOf base text < base ^ length text
+unfolding valueOf
 number-below base text all =
-    subst (λ (n : ℕ). numberFrom base 0 text < base ^ n) (zero-add (length text))
+    subst (λ (n : ℕ). valueFrom base 0 text < base ^ n) (zero-add (length text))
     (below-after base 0 0 text (rw (pow-zero base) (lit< tt)) all)
 
 -- the parts of the test of a number
@@ -148,8 +132,8 @@ number-of-digits base most text from to all = rw (within-both 1 most (length tex
 
 pub number-size : (base most : ℕ) (text : List ℕ) → isNumber base most text ≡ true → within 1 most (length text) ≡ true
 unfolding isNumber
-number-size base most text e = and-left (within 1 most (length text)) (allDigits base text) e
+number-size base most text e = and-eq-true-iff _ _ .0 e .0
 
 pub number-digits : (base most : ℕ) (text : List ℕ) → isNumber base most text ≡ true → allDigits base text ≡ true
 unfolding isNumber
-number-digits base most text e = and-right (within 1 most (length text)) (allDigits base text) e
+number-digits base most text e = and-eq-true-iff (within 1 most (length text)) _ .0 e .1

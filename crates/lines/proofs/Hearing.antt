@@ -12,11 +12,12 @@ use borrow.Author.Tests.{ne-eqb, lt-ltb, le-ltb}
 use lib.Dec.{eqb, lit≤}
 use lib.ListN.{length, getD, take, drop, set, length-append, length-set}
 use lib.Seq.{take-suc-set, drop-length}
+use Rattle.refusals.proofs.Tests.{by-test}
 use Rattle.lines.specs.declared.Heard.{Heard}
-use Rattle.lines.specs.Hearing.{silence, kept, tooLong, heardLine, Rules, Standing, hearing, heardAnswer, said, lastSaid, heardAfter, saidBy}
+use Rattle.lines.specs.Hearing.{silence, kept, tooLong, heardLine, Rules, Standing, hearing, heardAnswer, said, lastSaid, heardAfter}
 use Rattle.lines.specs.Lines.{linesFrom, linesOf, answers}
 use Rattle.lines.proofs.Calls.{line-kept, line-too-long}
-use Rattle.lines.proofs.Digits.{by-test, from-place}
+use Rattle.lines.proofs.Digits.{from-place}
 
 -- ---- the line so far
 
@@ -90,8 +91,14 @@ held-same of alike heard line holds =
       | no long ↦ ap of (line-too-long heard (omega (arith, holds .count-long (omega arith)))) ∙ sym (alike line (omega arith))
     ]
 
+-- ---- what is said to octets, one after the other
+
+unfoldable pub saidBy : {S : Type 0} → Rules S → Standing S → List ℕ → List ℕ
+saidBy rules at [] = []
+saidBy rules at (octet ∷ rest) = said rules at octet ++ saidBy rules (hearing rules at octet) rest
+
 module _ {S : Type 0} (rules : Rules S) where
-  -- ---- what is said
+  -- ---- what is said to one
 
   module _ (at : Standing S) (octet : ℕ) where
     said-feed : eqb octet 10 ≡ true → said rules at octet ≡ rules .answer (at .state) (heardLine (at .heard))
@@ -133,7 +140,7 @@ module _ {S : Type 0} (rules : Rules S) where
     unfolding lastSaid heardAnswer linesFrom answers
     last-answers at line holds =
         rw (held-empty (at .heard) line holds)
-        (by-test (eqb (length line) 0)
+        (by-test (eqb (length line) 0) _
         (λ empty. rw empty)
         (λ some. rw some (held-answer at line holds ∙ sym (append-nil (rules .answer (at .state) line)))))
 
@@ -143,7 +150,7 @@ module _ {S : Type 0} (rules : Rules S) where
     said-from at [] line holds = last-answers at line holds
     said-from at (octet ∷ rest) line holds =
         said-first at octet rest
-        ∙ by-test (eqb octet 10)
+        ∙ by-test (eqb octet 10) _
         (λ feed.
         rw feed
         (ap₂ (λ (a : List ℕ) (next : Standing S). a ++ saidInAll next rest)

@@ -5,14 +5,14 @@ use native.Mathlib.Decide.{decLt}
 use native.Mathlib.Nat.{pow-suc}
 use native.Mathlib.Omega.{arith}
 use mathlib.Core.Path.{_≡_, refl, sym, ap, subst, _∙_}
-use mathlib.Core.Bool.{true}
+use mathlib.Core.Bool.{true, and-eq-true-iff}
 use mathlib.Core.List.{List, [], _∷_, _++_}
 use borrow.Author.Tests.{lt-ltb, le-ltb}
 use lib.Dec.{ltb, lit≤}
 use lib.ListN.{length, getD, length-append, List·getD-append}
-use Rattle.lines.specs.Digits.{digitValue, allDigits, numberFrom, numberOf, isNumber}
+use Rattle.lines.specs.Digits.{digitValue, allDigits, valueFrom, valueOf, isNumber}
 use Rattle.lines.specs.Text.{glyphOf, decimalDigits, decimalText}
-use Rattle.lines.proofs.Digits.{and-left, and-right, and-both, decimal-digit, number-of-digits}
+use Rattle.lines.proofs.Digits.{decimal-digit, number-of-digits}
 use Rattle.lines.proofs.Text.{length-either}
 
 -- ---- digit by digit
@@ -79,8 +79,8 @@ unfolding glyphOf
 glyph-value digit small =
     rw (lt-ltb digit 10 small) (sym (decimal-digit (48 + digit) digit (omega arith) (omega arith) (omega arith)))
 
-number-append : (value : ℕ) (a : List ℕ) (octet : ℕ) → numberFrom 10 value (a ++ octet ∷ []) ≡ numberFrom 10 value a * 10 + digitValue octet
-unfolding numberFrom
+number-append : (value : ℕ) (a : List ℕ) (octet : ℕ) → valueFrom 10 value (a ++ octet ∷ []) ≡ valueFrom 10 value a * 10 + digitValue octet
+unfolding valueFrom
 number-append value [] octet = refl
 number-append value (first ∷ a) octet = number-append (value * 10 + digitValue first) a octet
 
@@ -88,19 +88,18 @@ digits-append : (a : List ℕ) (octet : ℕ) → allDigits 10 a ≡ true → dig
 unfolding allDigits
 digits-append [] octet all next = rw (lt-ltb (digitValue octet) 10 next)
 digits-append (first ∷ a) octet all next =
-    and-both (ltb (digitValue first) 10) (allDigits 10 (a ++ octet ∷ []))
-    (and-left (ltb (digitValue first) 10) (allDigits 10 a) all)
-    (digits-append a octet (and-right (ltb (digitValue first) 10) (allDigits 10 a) all) next)
+    let halves = and-eq-true-iff (ltb (digitValue first) 10) _ .0 all in
+    and-eq-true-iff (ltb (digitValue first) 10) _ .1 (halves .0, digits-append a octet (halves .1) next)
 
 -- the digits of a number: there are some, all are digits, they write the number, and the first is 0 for the number 0 alone
 record Written (number : ℕ) (text : List ℕ) : Type 0 where
   some : 1 ≤ length text
   digits : allDigits 10 text ≡ true
-  value : numberOf 10 text ≡ number
+  value : valueOf 10 text ≡ number
   no-zero : 0 < number → 0 < digitValue (getD text 0 0)
 
 written-one : (number : ℕ) → number < 10 → Written number (glyphOf number ∷ [])
-unfolding allDigits numberOf numberFrom
+unfolding allDigits valueOf valueFrom
 written-one number small =
     let is : digitValue (glyphOf number) ≡ number = glyph-value number small in
     record {
@@ -111,7 +110,7 @@ written-one number small =
     }
 
 written-more : (number : ℕ) (text : List ℕ) → 10 ≤ number → Written (number / 10) text → Written number (text ++ glyphOf (number % 10) ∷ [])
-unfolding numberOf
+unfolding valueOf
 written-more number text large tenth =
     let is : digitValue (glyphOf (number % 10)) ≡ number % 10 = glyph-value (number % 10) (omega arith) in
     record {
@@ -135,7 +134,7 @@ written-digits (suc most) number below =
 
 module _ (number : ℕ) (below : number < 10 ^ 10) where
   -- the text of a number reads as that number
-  pub decimal-reads : (isNumber 10 10 (decimalText number) ≡ true) × (numberOf 10 (decimalText number) ≡ number)
+  pub decimal-reads : (isNumber 10 10 (decimalText number) ≡ true) × (valueOf 10 (decimalText number) ≡ number)
   unfolding decimalText
   decimal-reads =
       let written = written-digits 9 number below in

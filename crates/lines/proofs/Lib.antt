@@ -1,11 +1,10 @@
--- The laws of digits and numbers, of texts that are put, of lines that are heard and of a run of the calls, and what the contracts determine.
-pub mod Answered
+-- The laws of digits and numbers, of texts that are put, of lines that are heard and of a run of the calls, and what callers learn.
+pub mod Callers
 pub mod Calls
-pub mod Determined
 pub mod Digits
 pub mod Hearing
 pub mod InDecimal
 pub mod Lines
+pub mod Placed
 pub mod Run
 pub mod Text
-pub mod Within

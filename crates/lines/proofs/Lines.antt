@@ -2,22 +2,26 @@
 -- Assumes nothing.
 use Prim.Native.Nat.{ℕ}
 use mathlib.Core.Path.{_≡_, sym, ap, _∙_}
-use mathlib.Core.Bool.{true, false, cond, not}
+use mathlib.Core.Bool.{Bool, true, false, cond, not, _&&_, and-eq-true-iff}
 use mathlib.Core.List.{List, [], _∷_, _++_, append-assoc, append-nil}
 use borrow.Author.Tests.{not-true}
 use lib.Dec.{eqb}
 use lib.ListN.{length}
-use Rattle.lines.proofs.Digits.{and-left, and-right}
-use Rattle.lines.specs.Lines.{linesFrom, linesOf, oneLine}
+use Rattle.lines.specs.Lines.{linesFrom, linesOf}
+
+-- no octet of a text is a line feed
+unfoldable pub oneLine : List ℕ → Bool
+oneLine [] = true
+oneLine (octet ∷ rest) = not (eqb octet 10) && oneLine rest
 
 -- of a text of one line, the first octet is no line feed, and the rest is of one line
 first-kept : (octet : ℕ) (rest : List ℕ) → oneLine (octet ∷ rest) ≡ true → eqb octet 10 ≡ false
 unfolding oneLine
-first-kept octet rest one = not-true (eqb octet 10) (and-left (not (eqb octet 10)) (oneLine rest) one)
+first-kept octet rest one = not-true (eqb octet 10) (and-eq-true-iff _ _ .0 one .0)
 
 rest-one : (octet : ℕ) (rest : List ℕ) → oneLine (octet ∷ rest) ≡ true → oneLine rest ≡ true
 unfolding oneLine
-rest-one octet rest one = and-right (not (eqb octet 10)) (oneLine rest) one
+rest-one octet rest one = and-eq-true-iff (not (eqb octet 10)) _ .0 one .1
 
 -- octets of one line go to the line that has begun
 more-of-line : (begun line rest : List ℕ) → oneLine line ≡ true → linesFrom begun (line ++ rest) ≡ linesFrom (begun ++ line) rest

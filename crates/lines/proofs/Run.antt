@@ -4,34 +4,34 @@ use native.Mathlib.Nat.{le-refl}
 use mathlib.Core.Path.{_≡_, refl, sym, ap, ap₂, subst, _∙_}
 use mathlib.Core.List.{List, [], _∷_, _++_, append-assoc}
 use lib.ListN.{length, take, replicate, length-replicate}
-use Rattle.refusals.specs.Refusal.{lent}
-use Rattle.lines.specs.Text.{roomOrder, PutCall}
-use Rattle.lines.specs.Hearing.{silence, Rules, Standing, hearing, said, lastSaid, heardAfter, saidBy, HearCall}
+use Rattle.refusals.specs.Call.{Answered, front}
+use Rattle.refusals.proofs.Calls.{done}
+use Rattle.lines.specs.Hearing.{silence, Rules, Standing, hearing, said, lastSaid, heardAfter, sayCall, HearCall}
 use Rattle.lines.specs.Lines.{linesOf, answers, Run, finished, heard-one}
-use Rattle.lines.proofs.Determined.{put-read, room-fits}
-use Rattle.lines.proofs.Hearing.{LongAlike, said-is-answers}
-use Rattle.lines.proofs.Text.{take-front, room-enough, put-allowed}
+use Rattle.lines.proofs.Callers.{room-done}
+use Rattle.lines.proofs.Hearing.{saidBy, LongAlike, said-is-answers}
+use Rattle.lines.proofs.Text.{take-front, room-enough}
 
 module _ {S : Type 0} (rules : Rules S) where
   -- ---- what is written
 
   -- with room, each call says what the definition says
-  pub with-room : {text before : List ℕ} {refusal written : ℕ} {after : List ℕ} → rules .room ≤ length before
-      → PutCall (roomOrder (rules .room) before) text before refusal written after → take written after ≡ text
-  with-room {text} {before} room call =
-      let put = put-read call (room-fits (rules .room) call room) in
-      ap₂ (λ (n : ℕ) (l : List ℕ). take n l) (put .0) (put .1) ∙ take-front text before
+  pub with-room : (text before : List ℕ) {refusal written : ℕ} {after : List ℕ} → rules .room ≤ length before
+      → Answered (sayCall rules text before) refusal (written ∷ []) after → take written after ≡ text
+  with-room text before room answered =
+      let put = room-done (rules .room) text before answered room .1 in
+      ap₂ (λ (n : ℕ) (l : List ℕ). take n l) (put .written-is) (put .output-is) ∙ take-front text before
 
   pub then-hearing : {at then : Standing S} {octet refusal written : ℕ} {before after : List ℕ} → rules .room ≤ length before
       → HearCall rules at octet before refusal then written after → then ≡ hearing rules at octet
-  then-hearing room call = call .then-is ∙ rw (room-fits (rules .room) (call .said-is) room)
+  then-hearing room call = call .then-is ∙ rw (room-done (rules .room) _ _ (call .said-is) room .0)
 
   -- a run writes what is said to its input
   run-said : {at : Standing S} {input output : List ℕ} → Run rules at input output → output ≡ saidBy rules at input ++ lastSaid rules (heardAfter rules at input)
   unfolding saidBy heardAfter
-  run-said (finished room call) = with-room room (call .said-is)
+  run-said (finished room call) = with-room _ _ room (call .said-is)
   run-said (heard-one {at = at} {octet = octet} {rest = rest} room call more) =
-      ap₂ (λ (a b : List ℕ). a ++ b) (with-room room (call .said-is)) (run-said more)
+      ap₂ (λ (a b : List ℕ). a ++ b) (with-room _ _ room (call .said-is)) (run-said more)
       ∙ ap (λ (s : Standing S). said rules at octet ++ (saidBy rules s rest ++ lastSaid rules (heardAfter rules s rest))) (then-hearing room call)
       ∙ sym (append-assoc (said rules at octet) (saidBy rules (hearing rules at octet) rest) (lastSaid rules (heardAfter rules (hearing rules at octet) rest)))
 
@@ -51,8 +51,8 @@ module _ {S : Type 0} (rules : Rules S) where
   has-room = subst (λ (n : ℕ). rules .room ≤ n) (sym (length-replicate {A = ℕ} (rules .room) 0)) (le-refl (rules .room))
 
   -- a call with that room
-  some-call : (text : List ℕ) → PutCall (roomOrder (rules .room) room-for-all) text room-for-all 0 (length text) (lent 0 text room-for-all)
-  some-call text = put-allowed text room-for-all _ _ (room-enough (rules .room) room-for-all has-room) refl refl
+  some-call : (text : List ℕ) → Answered (sayCall rules text room-for-all) 0 (length text ∷ []) (front text room-for-all)
+  some-call text = done (sayCall rules text room-for-all) (room-enough (rules .room) room-for-all has-room)
 
   pub some-run : (at : Standing S) (input : List ℕ) → (output : List ℕ) × Run rules at input output
   some-run at [] = (_, finished has-room (record { said-is = some-call (lastSaid rules at) }))

@@ -6,96 +6,59 @@ use native.Mathlib.Numerals.{add-one}
 use native.Mathlib.Omega.{arith}
 use mathlib.Core.Path.{_≡_, refl, sym, ap, ap₂, _∙_}
 use mathlib.Core.List.{List, [], _∷_, _++_, append-assoc, append-nil}
-use mathlib.Core.Bool.{Bool, true, false, cond}
-use borrow.Author.Tests.{lt-ltb, le-ltb, eq-eqb, ne-eqb}
+use mathlib.Core.Bool.{Bool, true, false, cond, and-eq-true-iff}
+use borrow.Author.Tests.{lt-ltb, le-ltb, eq-eqb}
 use lib.Dec.{eqb}
-use lib.ListN.{length, getD, take, drop, set, length-append, length-drop, drop-of-length-le}
-use lib.Seq.{sets, sets-eq, append-snoc, drop-cons, set-at, length-take-le, take-suc, take-length, take-append-seam}
-use Rattle.refusals.specs.Refusal.{Row, first, lent}
+use lib.ListN.{length, getD, take, drop, set, length-append, drop-of-length-le}
+use lib.Seq.{sets, sets-eq, length-take-le, take-suc, take-length, take-append-seam}
+use Rattle.refusals.specs.Refusal.{Row, first}
+use Rattle.refusals.specs.Call.{Answered, front}
+use Rattle.refusals.proofs.Calls.{refused}
+use Rattle.octets.proofs.Listed.{front-store}
 use Rattle.lines.specs.Digits.{digitValue, allDigits}
-use Rattle.lines.proofs.Digits.{and-right}
-use Rattle.lines.specs.Text.{roomOrder, PutCall, TextCall, HexCall, glyphOf, hexText, hexOctets, isHex, hexOrder}
+use Rattle.lines.specs.Text.{roomOrder, putsText, AtFront, glyphOf, hexText, hexOctets, isHex, hexOrder}
 
 -- ---- the front of an output
 
--- a loop that has put k octets to the front of an output puts the next one to place k
-pub front-store : (text before : List ℕ) (k octet : ℕ) → length text ≡ k → k < length before
-    → set (text ++ drop k before) k octet ≡ (text ++ octet ∷ []) ++ drop (k + 1) before
-front-store text before k octet long room =
-    rw (add-one k)
-    (ap (λ (l : List ℕ). set (text ++ l) k octet) (drop-cons before k 0 room)
-    ∙ set-at text (getD before k 0) (drop (suc k) before) octet k long
-    ∙ sym (append-snoc text octet (drop (suc k) before)))
-
--- an output keeps its length
-pub length-front : (text before : List ℕ) (k : ℕ) → length text ≡ k → k ≤ length before → length (text ++ drop k before) ≡ length before
-length-front text before k long room = simp (length-append, length-drop, long) (omega arith)
-
 -- the text is what stands at the front
-pub take-front : (text before : List ℕ) → take (length text) (lent 0 text before) ≡ text
-unfolding lent
+pub take-front : (text before : List ℕ) → take (length text) (front text before) ≡ text
+unfolding front
 take-front text before = take-append-seam text (drop (length text) before)
 
 -- a text as long as the output is all of it
-pub front-whole : (text before : List ℕ) → length text ≡ length before → lent 0 text before ≡ text
-unfolding lent
+pub front-whole : (text before : List ℕ) → length text ≡ length before → front text before ≡ text
+unfolding front
 front-whole text before same = ap (λ (l : List ℕ). text ++ l) (drop-of-length-le before {i = length text} (omega arith)) ∙ append-nil text
 
--- putting nothing changes nothing
-pub front-nothing : (before : List ℕ) → lent 0 [] before ≡ before
-unfolding lent
-front-nothing before = refl
-
 -- octets stored one after the other from place 0 on
-pub stored-front : (text before : List ℕ) → length text ≤ length before → sets before 0 text ≡ lent 0 text before
-unfolding lent
+pub stored-front : (text before : List ℕ) → length text ≤ length before → sets before 0 text ≡ front text before
+unfolding front
 stored-front text before room =
     sets-eq text before 0 (omega arith) ∙ ap (λ (n : ℕ). text ++ drop n before) (zero-add (length text))
 
 -- ---- what is put, and what is refused
 
+-- where no cause of a refusal holds, and the text stands at the front
+pub put : {order : List Row} {text before : List ℕ} {count : ℕ} {after : List ℕ} → first order ≡ 0 → AtFront text before count after
+    → Answered (putsText order text before) 0 (count ∷ []) after
+put none at-front = record { refusal-is = sym none; numbers-are = ap (λ (n : ℕ). n ∷ []) (at-front .written-is); lent-is = at-front .output-is }
+
 -- the room decides
-pub room-short : (room : ℕ) (before : List ℕ) → length before < room → first (roomOrder room before) ≡ 4
-unfolding first roomOrder
-room-short room before short = rw (lt-ltb (length before) room short)
+module _ (room : ℕ) (before : List ℕ) where
+  pub room-short : length before < room → first (roomOrder room before) ≡ 4
+  unfolding first roomOrder
+  room-short short = rw (lt-ltb (length before) room short)
 
-pub room-enough : (room : ℕ) (before : List ℕ) → room ≤ length before → first (roomOrder room before) ≡ 0
-unfolding first roomOrder
-room-enough room before enough = rw (le-ltb (length before) room enough)
+  pub room-enough : room ≤ length before → first (roomOrder room before) ≡ 0
+  unfolding first roomOrder
+  room-enough enough = rw (le-ltb (length before) room enough)
 
--- where a cause of a refusal holds nothing is put, and where none does the text is
-module _ {order : List Row} (text before : List ℕ) where
-  pub put-refused : (refusal : ℕ) → first order ≡ refusal → (refusal ≡ 0 → ⊥) → PutCall order text before refusal 0 before
-  unfolding lent
-  put-refused refusal named some = record { refusal-is = sym named; count-is = rw (ne-eqb refusal 0 some); output-is = rw (ne-eqb refusal 0 some) }
+  pub put-short : (text : List ℕ) → length before < room → Answered (putsText (roomOrder room before) text before) 4 (0 ∷ []) before
+  put-short text short = refused (putsText (roomOrder room before) text before) 4 (room-short short) (λ zero. omega arith)
 
-  pub put-allowed : (after : List ℕ) (count : ℕ) → first order ≡ 0 → length text ≡ count → after ≡ lent 0 text before → PutCall order text before 0 count after
-  put-allowed after count none long e = record { refusal-is = sym none; count-is = sym long; output-is = e }
-
--- where there is too little room
-pub put-short : (room : ℕ) (text before : List ℕ) → length before < room → PutCall (roomOrder room before) text before 4 0 before
-put-short room text before short = put-refused text before 4 (room-short room before short) (λ zero. omega arith)
-
--- a text that every output with room for it takes: there is room, or there is none
-pub put-done : (text before after : List ℕ) (count : ℕ) → length text ≡ count → count ≤ length before → after ≡ lent 0 text before → TextCall text before 0 count after
-put-done text before after count long room e = put-allowed text before after count (room-enough (length text) before (omega arith)) long e
-
-pub put-no-room : (text before : List ℕ) (count : ℕ) → length text ≡ count → length before < count → TextCall text before 4 0 before
-put-no-room text before count long short = put-short (length text) text before (omega arith)
-
--- ---- a text octet by octet
-
--- a turn of the loop puts one octet more
-pub text-turn : (text before : List ℕ) (k : ℕ) → k < length text → k < length before
-    → set (take k text ++ drop k before) k (getD text k 0) ≡ take (k + 1) text ++ drop (k + 1) before
-text-turn text before k inside room =
-    front-store (take k text) before k (getD text k 0) (length-take-le k text (omega arith)) room
-    ∙ rw (add-one k) (ap (λ (l : List ℕ). l ++ drop (suc k) before) (sym (take-suc text k 0 inside)))
-
--- after the last turn all of it is put
-pub text-put : (text before : List ℕ) (k : ℕ) → k ≡ length text → take k text ++ drop k before ≡ lent 0 text before
-unfolding lent
-text-put text before k end = ap (λ (n : ℕ). take n text ++ drop n before) end ∙ ap (λ (l : List ℕ). l ++ drop (length text) before) (take-length text)
+  pub put-fits : {text : List ℕ} {count : ℕ} {after : List ℕ} → room ≤ length before → AtFront text before count after
+      → Answered (putsText (roomOrder room before) text before) 0 (count ∷ []) after
+  put-fits enough at-front = put (room-enough enough) at-front
 
 -- ---- octets as hex
 
@@ -138,8 +101,8 @@ hex-turn octets before k inside room =
     ∙ ap₂ (λ (l : List ℕ) (n : ℕ). l ++ drop n before) (sym (hexText-step octets k inside)) next
 
 -- after the last turn the whole hex is put
-pub hex-put : (octets before : List ℕ) (k : ℕ) → k ≡ length octets → hexText (take k octets) ++ drop (2 * k) before ≡ lent 0 (hexText octets) before
-unfolding lent
+pub hex-put : (octets before : List ℕ) (k : ℕ) → k ≡ length octets → hexText (take k octets) ++ drop (2 * k) before ≡ front (hexText octets) before
+unfolding front
 hex-put octets before k end =
     ap (λ (n : ℕ). hexText (take n octets) ++ drop (2 * n) before) end
     ∙ ap₂ (λ (l : List ℕ) (n : ℕ). hexText l ++ drop n before) (take-length octets) (sym (length-hexText octets))
@@ -183,8 +146,8 @@ octets-turn text before k inside room =
     ∙ ap (λ (l : List ℕ). l ++ drop (k + 1) before) (sym (hexOctets-step text k inside))
 
 -- after the last turn all octets are put
-pub octets-put : (text before : List ℕ) (k : ℕ) → 2 * k ≡ length text → hexOctets (take (2 * k) text) ++ drop k before ≡ lent 0 (hexOctets text) before
-unfolding lent
+pub octets-put : (text before : List ℕ) (k : ℕ) → 2 * k ≡ length text → hexOctets (take (2 * k) text) ++ drop k before ≡ front (hexOctets text) before
+unfolding front
 octets-put text before k end =
     let count : length text / 2 ≡ k = omega arith in
     ap₂ (λ (l : List ℕ) (n : ℕ). hexOctets l ++ drop n before)
@@ -198,24 +161,17 @@ hex-of-digits text even all = rw (eq-eqb (length text % 2) 0 even, all)
 
 pub hex-digits : (text : List ℕ) → isHex text ≡ true → allDigits 16 text ≡ true
 unfolding isHex
-hex-digits text e = and-right (eqb (length text % 2) 0) (allDigits 16 text) e
+hex-digits text e = and-eq-true-iff (eqb (length text % 2) 0) _ .0 e .1
 
--- the octets of pairs of hex digits: the text is none, there is no room, or they are put
+-- the refusals of putting the octets of a text: it is not pairs of hex digits, or the room decides
 module _ (text before : List ℕ) where
-  pub hex-bad : isHex text ≡ false → HexCall text before 2 0 before
+  pub hex-bad : isHex text ≡ false → first (hexOrder text before) ≡ 2
   unfolding first hexOrder
-  hex-bad bad = put-refused (hexOctets text) before 2 (rw bad) (λ zero. omega arith)
+  hex-bad bad = rw bad
 
-  module _ (good : isHex text ≡ true) where
-    by-room : first (hexOrder text before) ≡ first (roomOrder (length (hexOctets text)) before)
-    unfolding first hexOrder
-    by-room = rw good
-
-    pub hex-no-room : length before < length (hexOctets text) → HexCall text before 4 0 before
-    hex-no-room short = put-refused (hexOctets text) before 4 (by-room ∙ room-short _ before short) (λ zero. omega arith)
-
-    pub hex-done : (after : List ℕ) (count : ℕ) → length (hexOctets text) ≡ count → count ≤ length before → after ≡ lent 0 (hexOctets text) before → HexCall text before 0 count after
-    hex-done after count long room e = put-allowed (hexOctets text) before after count (by-room ∙ room-enough _ before (omega arith)) long e
+  pub hex-good : isHex text ≡ true → first (hexOrder text before) ≡ first (roomOrder (length (hexOctets text)) before)
+  unfolding first hexOrder
+  hex-good good = rw good
 
 -- of two texts, whichever a test picks, neither is longer than n
 pub length-either : (test : Bool) (a b : List ℕ) (n : ℕ) → length a ≤ n → length b ≤ n → length (cond test a b) ≤ n

@@ -1,11 +1,11 @@
 -- Digits, and the numbers that texts of digits write. Assumes nothing.
 use Prim.Native.Nat.{ℕ, _+_, _-_, _*_}
-use mathlib.Core.Path.{_≡_}
 use mathlib.Core.Bool.{Bool, true, cond, not, _&&_}
 use mathlib.Core.List.{List, [], _∷_}
-use lib.Dec.{eqb, leb, ltb}
+use lib.Dec.{leb, ltb}
 use lib.ListN.{length}
-use Rattle.refusals.specs.Refusal.{Row, first}
+use Rattle.refusals.specs.Refusal.{Row}
+use Rattle.refusals.specs.Call.{Call, tells}
 
 -- an octet from `low` to `high`
 unfoldable pub within : ℕ → ℕ → ℕ → Bool
@@ -24,23 +24,30 @@ allDigits base [] = true
 allDigits base (octet ∷ rest) = ltb (digitValue octet) base && allDigits base rest
 
 -- the number that the digits of a text write after those that wrote `start`, by Horner's rule
-unfoldable pub numberFrom : ℕ → ℕ → List ℕ → ℕ
-numberFrom base start [] = start
-numberFrom base start (octet ∷ rest) = numberFrom base (start * base + digitValue octet) rest
+unfoldable pub valueFrom : ℕ → ℕ → List ℕ → ℕ
+valueFrom base start [] = start
+valueFrom base start (octet ∷ rest) = valueFrom base (start * base + digitValue octet) rest
 
 -- the number that a text of digits writes, the first digit highest
-unfoldable pub numberOf : ℕ → List ℕ → ℕ
-numberOf base text = numberFrom base 0 text
+unfoldable pub valueOf : ℕ → List ℕ → ℕ
+valueOf base text = valueFrom base 0 text
 
 -- a number is a text of 1 to `most` digits of the base
 unfoldable pub isNumber : ℕ → ℕ → List ℕ → Bool
 isNumber base most text = within 1 most (length text) && allDigits base text
 
 -- the one refusal of reading a number: 2 where the text is none
-unfoldable pub numberOrder : ℕ → ℕ → List ℕ → List Row
-numberOrder base most text = record { number = 2; holds = not (isNumber base most text) } ∷ []
+unfoldable pub digitsOrder : ℕ → ℕ → List ℕ → List Row
+digitsOrder base most text = record { number = 2; holds = not (isNumber base most text) } ∷ []
 
--- reading a number: the refusal, and the value, which is 0 where refused
-pub record NumberCall (base most : ℕ) (text : List ℕ) (refusal value : ℕ) : Type 0 where
-  pub refusal-is : refusal ≡ first (numberOrder base most text)
-  pub value-is : value ≡ cond (eqb refusal 0) (numberOf base text) 0
+-- reading such a number hands out its value
+abbrev pub digitsCall : ℕ → ℕ → List ℕ → Call (Unit {0})
+digitsCall base most text = tells (digitsOrder base most text) (valueOf base text ∷ [])
+
+-- lines::decimal, of 1 to 10 digits
+abbrev pub decimalCall : List ℕ → Call (Unit {0})
+decimalCall text = digitsCall 10 10 text
+
+-- lines::hexadecimal, of 1 to 16 digits of either case
+abbrev pub hexadecimalCall : List ℕ → Call (Unit {0})
+hexadecimalCall text = digitsCall 16 16 text

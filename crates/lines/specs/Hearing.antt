@@ -3,11 +3,12 @@
 use Prim.Native.Nat.{ℕ, _+_}
 use mathlib.Core.Path.{_≡_}
 use mathlib.Core.Bool.{cond}
-use mathlib.Core.List.{List, [], _∷_, _++_}
+use mathlib.Core.List.{List, [], _∷_}
 use lib.Dec.{eqb, leb, ltb}
 use lib.ListN.{take, set, replicate}
+use Rattle.refusals.specs.Call.{Call, Answered}
 use Rattle.lines.specs.declared.Heard.{Heard}
-use Rattle.lines.specs.Text.{roomOrder, PutCall}
+use Rattle.lines.specs.Text.{roomOrder, putsText}
 
 -- nothing heard yet
 unfoldable pub silence : Heard
@@ -64,17 +65,15 @@ module _ {S : Type 0} (rules : Rules S) where
   heardAfter at [] = at
   heardAfter at (octet ∷ rest) = heardAfter (hearing at octet) rest
 
-  -- what is answered to them
-  unfoldable pub saidBy : Standing S → List ℕ → List ℕ
-  saidBy at [] = []
-  saidBy at (octet ∷ rest) = said at octet ++ saidBy (hearing at octet) rest
+-- what is said is put to the front of an output that must have the room of the rules, even where nothing is due
+abbrev pub sayCall : {S : Type 0} → Rules S → List ℕ → List ℕ → Call (List ℕ)
+sayCall rules text output = putsText (roomOrder (rules .room) output) text output
 
--- hearing an octet: the refusal, which is 4 where the output has less room than the rules ask; where the program then stands; and the answer. A refused
--- octet is not heard, even where no answer is due to it
+-- hearing an octet: what is said, and where the program then stands. A refused octet is not heard
 pub record HearCall {S : Type 0} (rules : Rules S) (at : Standing S) (octet : ℕ) (before : List ℕ) (refusal : ℕ) (then : Standing S) (written : ℕ) (after : List ℕ) : Type 0 where
-  pub said-is : PutCall (roomOrder (rules .room) before) (said rules at octet) before refusal written after
+  pub said-is : Answered (sayCall rules (said rules at octet) before) refusal (written ∷ []) after
   pub then-is : then ≡ cond (eqb refusal 0) (hearing rules at octet) at
 
--- the end of the input, refused likewise
+-- the end of the input: the last line is answered
 pub record FinishCall {S : Type 0} (rules : Rules S) (at : Standing S) (before : List ℕ) (refusal written : ℕ) (after : List ℕ) : Type 0 where
-  pub said-is : PutCall (roomOrder (rules .room) before) (lastSaid rules at) before refusal written after
+  pub said-is : Answered (sayCall rules (lastSaid rules at) before) refusal (written ∷ []) after

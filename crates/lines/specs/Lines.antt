@@ -1,6 +1,6 @@
 -- The lines of an input, what a program that answers lines writes for it, and what a run of the calls writes. Assumes nothing.
 use Prim.Native.Nat.{ℕ, _≤_}
-use mathlib.Core.Bool.{Bool, true, cond, not, _&&_}
+use mathlib.Core.Bool.{cond}
 use mathlib.Core.List.{List, [], _∷_, _++_}
 use lib.Dec.{eqb}
 use lib.ListN.{length, take}
@@ -14,11 +14,6 @@ linesFrom begun (octet ∷ rest) = cond (eqb octet 10) (begun ∷ linesFrom [] r
 -- the lines of an input
 unfoldable pub linesOf : List ℕ → List (List ℕ)
 linesOf input = linesFrom [] input
-
--- no octet of a text is a line feed
-unfoldable pub oneLine : List ℕ → Bool
-oneLine [] = true
-oneLine (octet ∷ rest) = not (eqb octet 10) && oneLine rest
 
 -- the answers to lines, one after the other, from a state on
 unfoldable pub answers : {S : Type 0} → Rules S → S → List (List ℕ) → List ℕ

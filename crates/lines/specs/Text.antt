@@ -5,28 +5,26 @@ use mathlib.Core.Bool.{Bool, cond, not, _&&_}
 use mathlib.Core.List.{List, [], _∷_, _++_}
 use lib.Dec.{eqb, ltb}
 use lib.ListN.{length, take, drop}
-use Rattle.refusals.specs.Refusal.{Row, first, lent}
+use Rattle.refusals.specs.Refusal.{Row}
+use Rattle.refusals.specs.Call.{Call, none, front}
 use Rattle.lines.specs.Digits.{digitValue, allDigits}
 
 -- the one refusal for want of room: 4 where an output has less than `room` octets
 unfoldable pub roomOrder : ℕ → List ℕ → List Row
 roomOrder room output = record { number = 4; holds = ltb (length output) room } ∷ []
 
--- putting a text at the front of a lent output: the refusal is the first of `order` that holds; how many octets were put; what the output then
--- holds. A text that is refused has no octets there, and changes nothing
-pub record PutCall (order : List Row) (text before : List ℕ) (refusal count : ℕ) (after : List ℕ) : Type 0 where
-  pub refusal-is : refusal ≡ first order
-  pub count-is : count ≡ cond (eqb refusal 0) (length text) 0
-  pub output-is : after ≡ lent refusal text before
+-- a call that puts a text to the front of one lent output, and hands out how many octets the text has
+abbrev pub putsText : List Row → List ℕ → List ℕ → Call (List ℕ)
+putsText order text output = record { order = order; numbers = length text ∷ []; candidateWith = none; before = output; after = front text output }
 
--- a text that every output with room for it takes
-abbrev pub TextCall : List ℕ → List ℕ → ℕ → ℕ → List ℕ → Type 0
-TextCall text before refusal count after = PutCall (roomOrder (length text) before) text before refusal count after
+-- lines::put_text: every output with room for the text takes it
+abbrev pub putTextCall : List ℕ → List ℕ → Call (List ℕ)
+putTextCall text output = putsText (roomOrder (length text) output) text output
 
--- an answer at the front of an output that has room for it: how many octets it has, and what the output then holds
-pub record Answered (text before : List ℕ) (written : ℕ) (after : List ℕ) : Type 0 where
+-- a text at the front of an output that has room for it: how many octets it has, and what the output then holds
+pub record AtFront (text before : List ℕ) (written : ℕ) (after : List ℕ) : Type 0 where
   pub written-is : written ≡ length text
-  pub output-is : after ≡ lent 0 text before
+  pub output-is : after ≡ front text before
 
 -- a text from a place of an output on: the place after it, and what the output then holds, which is as it was before and after the text
 pub record Added (text before : List ℕ) (place end : ℕ) (after : List ℕ) : Type 0 where
@@ -42,6 +40,10 @@ unfoldable pub hexText : List ℕ → List ℕ
 hexText [] = []
 hexText (octet ∷ rest) = glyphOf (octet / 16) ∷ glyphOf (octet % 16) ∷ hexText rest
 
+-- lines::hex_of_octets
+abbrev pub hexOfOctetsCall : List ℕ → List ℕ → Call (List ℕ)
+hexOfOctetsCall octets output = putTextCall (hexText octets) output
+
 -- the octets that pairs of hex digits write
 unfoldable pub hexOctets : List ℕ → List ℕ
 hexOctets [] = []
@@ -56,9 +58,9 @@ isHex text = eqb (length text % 2) 0 && allDigits 16 text
 unfoldable pub hexOrder : List ℕ → List ℕ → List Row
 hexOrder text output = record { number = 2; holds = not (isHex text) } ∷ roomOrder (length (hexOctets text)) output
 
--- putting the octets that a text writes
-abbrev pub HexCall : List ℕ → List ℕ → ℕ → ℕ → List ℕ → Type 0
-HexCall text before refusal count after = PutCall (hexOrder text before) (hexOctets text) before refusal count after
+-- lines::octets_of_hex
+abbrev pub octetsOfHexCall : List ℕ → List ℕ → Call (List ℕ)
+octetsOfHexCall text output = putsText (hexOrder text output) (hexOctets text) output
 
 -- the last `most` digits of a number in decimal, without leading zeros
 unfoldable pub decimalDigits : ℕ → ℕ → List ℕ
@@ -68,3 +70,7 @@ decimalDigits (suc most) number = cond (ltb number 10) (glyphOf number ∷ []) (
 -- a number of at most ten digits in decimal, without leading zeros
 unfoldable pub decimalText : ℕ → List ℕ
 decimalText number = decimalDigits 10 number
+
+-- lines::decimal_of_number
+abbrev pub decimalOfNumberCall : ℕ → List ℕ → Call (List ℕ)
+decimalOfNumberCall number output = putTextCall (decimalText number) output

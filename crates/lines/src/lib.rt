@@ -1,10 +1,12 @@
 // Text that the programs read and write: digits, numbers, octets as hex, and lines that are heard octet by octet.
 ghost use mathlib.Core.Path.{_≡_};
+ghost use mathlib.Core.List.{[], _∷_};
 ghost use Prim.Native.Nat.{_^_, _<_, _≤_};
-ghost use Rattle.lines.specs.Digits.{digitValue, allDigits, NumberCall};
-ghost use Rattle.lines.specs.Text.{TextCall, HexCall, Answered, hexText, glyphOf, decimalText};
-ghost use Rattle.lines.specs.Hearing.{silence as Hearing·silence, kept as Hearing·kept, tooLong};
 ghost use lib.ListN.{length};
+ghost use Rattle.refusals.specs.Call.{Answered};
+ghost use Rattle.lines.specs.Digits.{digitValue, allDigits, digitsCall, decimalCall, hexadecimalCall};
+ghost use Rattle.lines.specs.Text.{AtFront, glyphOf, decimalText, octetsOfHexCall, hexOfOctetsCall, decimalOfNumberCall, putTextCall};
+ghost use Rattle.lines.specs.Hearing.{silence as Hearing·silence, kept as Hearing·kept, tooLong};
 
 // The most octets of a line that is kept whole.
 pub const LONGEST: usize = 48;
@@ -50,7 +52,7 @@ fn all_digits(text: &[u8], base: u64) -> bool
 // A number of one to `most` digits of a base. The callers choose a base and a `most` whose largest number fits.
 fn number_in(text: &[u8], base: u64, most: usize) -> Number
     requires { ⌜ base ^ most ≤ 2 ^ 64 ⌝ }
-    ensures { λ r. ⌜ NumberCall base most (now (text .entry)) (r .refusal) (r .value) ⌝ }
+    ensures { λ r. ⌜ Answered (digitsCall base most (now (text .entry))) (r .refusal) (r .value ∷ []) tt ⌝ }
 {
     let none = Number {
         refusal: refusals::RANGE,
@@ -76,21 +78,21 @@ fn number_in(text: &[u8], base: u64, most: usize) -> Number
 
 // A decimal number of one to ten digits.
 pub fn decimal(text: &[u8]) -> Number
-    ensures { λ r. ⌜ NumberCall 10 10 (now (text .entry)) (r .refusal) (r .value) ⌝ }
+    ensures { λ r. ⌜ Answered (decimalCall (now (text .entry))) (r .refusal) (r .value ∷ []) tt ⌝ }
 {
     number_in(text, 10, 10)
 }
 
 // A hex number of one to sixteen digits of either case.
 pub fn hexadecimal(text: &[u8]) -> Number
-    ensures { λ r. ⌜ NumberCall 16 16 (now (text .entry)) (r .refusal) (r .value) ⌝ }
+    ensures { λ r. ⌜ Answered (hexadecimalCall (now (text .entry))) (r .refusal) (r .value ∷ []) tt ⌝ }
 {
     number_in(text, 16, 16)
 }
 
 // Puts the octets that pairs of hex digits write at the front of the output.
 pub fn octets_of_hex(text: &[u8], output: &mut [u8]) -> Put
-    ensures { λ r. ⌜ HexCall (now (text .entry)) (now (output .entry)) (r .refusal) (r .count) (now (output .exit)) ⌝ }
+    ensures { λ r. ⌜ Answered (octetsOfHexCall (now (text .entry)) (now (output .entry))) (r .refusal) (r .count ∷ []) (now (output .exit)) ⌝ }
 {
     let bad = Put {
         refusal: refusals::RANGE,
@@ -131,7 +133,7 @@ fn glyph(number: u8) -> u8
 
 // Puts octets as capital hex at the front of the output, two digits an octet.
 pub fn hex_of_octets(octets: &[u8], output: &mut [u8]) -> Put
-    ensures { λ r. ⌜ TextCall (hexText (now (octets .entry))) (now (output .entry)) (r .refusal) (r .count) (now (output .exit)) ⌝ }
+    ensures { λ r. ⌜ Answered (hexOfOctetsCall (now (octets .entry)) (now (output .entry))) (r .refusal) (r .count ∷ []) (now (output .exit)) ⌝ }
 {
     let count = 2 * octets.len();
     if output.len() < count {
@@ -162,7 +164,7 @@ fn digits_of(number: u32) -> usize
 // Puts the digits of a number, the highest first.
 fn put_digits(number: u32, output: &mut [u8]) -> usize
     requires { ⌜ length (decimalText number) ≤ length (now output) ⌝ }
-    ensures { λ r. ⌜ Answered (decimalText number) (now (output .entry)) r (now (output .exit)) ⌝ }
+    ensures { λ r. ⌜ AtFront (decimalText number) (now (output .entry)) r (now (output .exit)) ⌝ }
 {
     let last = glyph((number % 10) as u8);
     if 9 < number {
@@ -176,7 +178,7 @@ fn put_digits(number: u32, output: &mut [u8]) -> usize
 
 // Puts a number in decimal at the front of the output, without leading zeros.
 pub fn decimal_of_number(number: u32, output: &mut [u8]) -> Put
-    ensures { λ r. ⌜ TextCall (decimalText number) (now (output .entry)) (r .refusal) (r .count) (now (output .exit)) ⌝ }
+    ensures { λ r. ⌜ Answered (decimalOfNumberCall number (now (output .entry))) (r .refusal) (r .count ∷ []) (now (output .exit)) ⌝ }
 {
     if output.len() < digits_of(number) {
         return Put {
@@ -190,7 +192,7 @@ pub fn decimal_of_number(number: u32, output: &mut [u8]) -> Put
 
 // Puts a text at the front of the output.
 pub fn put_text(text: &[u8], output: &mut [u8]) -> Put
-    ensures { λ r. ⌜ TextCall (now (text .entry)) (now (output .entry)) (r .refusal) (r .count) (now (output .exit)) ⌝ }
+    ensures { λ r. ⌜ Answered (putTextCall (now (text .entry)) (now (output .entry))) (r .refusal) (r .count ∷ []) (now (output .exit)) ⌝ }
 {
     let count = text.len();
     if output.len() < count {
@@ -199,11 +201,7 @@ pub fn put_text(text: &[u8], output: &mut [u8]) -> Put
             count: 0,
         };
     }
-    let mut k = 0;
-    while k < count {
-        output[k] = text[k];
-        k += 1;
-    }
+    bytes::copy(text, output);
     Put { refusal: 0, count }
 }
 

@@ -50,21 +50,29 @@ listed-map f l =
 -- ---- a buffer whose front is filled
 
 -- a buffer keeps its length where its first k elements are replaced
+pub length-front : (some before : List ℕ) (k : ℕ) → length some ≡ k → k ≤ length before → length (some ++ drop k before) ≡ length before
+length-front some before k long room = simp (length-append, length-drop, long) (omega arith)
+
+-- a loop that has put k elements to the front of a buffer puts the next one to place k
+pub front-store : (some before : List ℕ) (k next : ℕ) → length some ≡ k → k < length before
+    → set (some ++ drop k before) k next ≡ (some ++ next ∷ []) ++ drop (k + 1) before
+front-store some before k next long room =
+    rw (add-one k)
+    (ap (λ (l : List ℕ). set (some ++ l) k next) (drop-cons before k 0 room)
+    ∙ set-at some (getD before k 0) (drop (suc k) before) next k long
+    ∙ sym (append-snoc some next (drop (suc k) before)))
+
+-- the same where the elements are f 0, f 1, ..
 pub length-listed-front : (f : ℕ → ℕ) (before : List ℕ) (k : ℕ) → k ≤ length before → length (listed f k ++ drop k before) ≡ length before
-length-listed-front f before k room = simp (length-append, length-listed, length-drop) (omega arith)
+length-listed-front f before k room = length-front (listed f k) before k (length-listed f k) room
 
 pub getD-listed-front : (f : ℕ → ℕ) (rest : List ℕ) (k i d : ℕ) → i < k → getD (listed f k ++ rest) i d ≡ f i
 getD-listed-front f rest k i d below = List·getD-append (listed f k) rest d i (rw length-listed below) ∙ getD-listed f k i d below
 
--- a loop that has put the first k elements to the front of a buffer puts the next one to place k
 pub listed-store : (f : ℕ → ℕ) (before : List ℕ) (k : ℕ) → k < length before
     → set (listed f k ++ drop k before) k (f k) ≡ listed f (k + 1) ++ drop (k + 1) before
 unfolding listed
-listed-store f before k room =
-    rw (add-one k)
-    (ap (λ (l : List ℕ). set (listed f k ++ l) k (f k)) (drop-cons before k 0 room)
-    ∙ set-at (listed f k) (getD before k 0) (drop (suc k) before) (f k) k (length-listed f k)
-    ∙ sym (append-snoc (listed f k) (f k) (drop (suc k) before)))
+listed-store f before k room = front-store (listed f k) before k (f k) (length-listed f k) room ∙ rw (add-one k)
 
 -- a loop that has filled the front up to `at` fills the first m places of the part of k places after it
 pub listed-part : (f g : ℕ → ℕ) (before now : List ℕ) (at m k : ℕ) → now ≡ listed f at ++ drop at before

@@ -8,7 +8,7 @@ use mathlib.Core.Path.{_≡_, refl, ap, _∙_}
 use native.Mathlib.Omega.{arith}
 use lib.ListN.{length}
 use Rattle.lines.specs.Text.{glyphOf}
-use Rattle.lines.proofs.Answered.{answered-stored, answered-octet}
+use Rattle.lines.proofs.Placed.{at-front-stored, at-front-octet}
 use Rattle.lines.proofs.InDecimal.{decimal-one, decimal-more, length-decimalText, length-more}
 use borrow.Fn.Kinds.{In}
 use borrow.Fn.PlainCycle.{Measures, is, falls, and}
@@ -102,7 +102,7 @@ put-digits-returns t c =
     let large : 10 ≤ number = omega arith in
     let below : number < 10 ^ 10 = omega arith in
     rw (decimal-more number large below, ← c .before .before .before .before .before .glyph .ensures)
-    (answered-octet (c .before .before .before .before .before .glyph .result) (c .before .before .put-digits .ensures)
+    (at-front-octet (c .before .before .before .before .before .glyph .result) (c .before .before .put-digits .ensures)
     (omega (arith, at-start .pre .1, length-more number large below)))
 
 put-digits-slice-write-output-2 : (t : ℕ) → put-digits-lts.Need-slice-write-output-2 (
@@ -136,7 +136,7 @@ put-digits-returns-2 t c =
     let small : number < 10 = omega arith in
     let same : number % 10 ≡ number = omega arith in
     rw (decimal-one number small, c .before .glyph .ensures ∙ ap glyphOf same)
-    (answered-stored (glyphOf number ∷ []) (now (at-start .args .output)) 1 refl (omega (arith, at-start .pre .1, ap length (decimal-one number small))))
+    (at-front-stored (glyphOf number ∷ []) (now (at-start .args .output)) 1 refl (omega (arith, at-start .pre .1, ap length (decimal-one number small))))
 
 pub +put-digits-spec : {M : Type 1} → statement M
 +put-digits-spec = close μ-put-digits λ t. put-digits-lts.spec (

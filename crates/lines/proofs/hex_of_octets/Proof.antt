@@ -6,10 +6,11 @@ use borrow.Author.Needs.{needs}
 use denote.Ref.{now}
 use lib.ListN.{length, take, drop, set, length-set}
 use mathlib.Core.List.{List, _++_}
-use mathlib.Core.Path.{_≡_, refl, ap, ap₂, _∙_}
+use mathlib.Core.Path.{_≡_, refl, sym, ap, ap₂, _∙_}
 use native.Mathlib.Omega.{arith}
+use Rattle.octets.proofs.Listed.{length-front}
 use Rattle.lines.specs.Text.{hexText}
-use Rattle.lines.proofs.Text.{length-front, length-hexText, length-some-hex, hex-turn, hex-put, put-done, put-no-room}
+use Rattle.lines.proofs.Text.{length-hexText, length-some-hex, hex-turn, hex-put, put-short, put-fits}
 use Rattle.lines.proofs.hex_of_octets.Statement.{statement}
 use Rattle.lines.proofs.hex_of_octets.Tie as tie
 
@@ -30,7 +31,7 @@ mul-count : tie.Need-mul-count Inv-loop μ-loop
 mul-count c = omega arith
 
 returns : tie.Need-returns Inv-loop μ-loop
-returns c = put-no-room _ _ _ (length-hexText _) (omega arith)
+returns c = put-short _ _ _ (omega (arith, length-hexText (now (c .before .before .before .args .octets))))
 
 loop-holds : tie.Need-loop-holds Inv-loop μ-loop
 unfolding hexText
@@ -89,8 +90,12 @@ returns-2 : tie.Need-returns-2 Inv-loop μ-loop
 returns-2 c =
     let at-loop = c .before in
     let given = at-loop .before .before .before .before .args in
-    put-done _ _ _ _ (length-hexText _) (omega arith)
-    (at-loop .loop .inv .1 ∙ hex-put (now (given .octets)) (now (given .output)) (at-loop .loop .k) (omega arith))
+    let octets = now (given .octets) in
+    put-fits _ _ (omega (arith, length-hexText octets))
+    (record {
+      written-is = sym (length-hexText octets);
+      output-is = at-loop .loop .inv .1 ∙ hex-put octets (now (given .output)) (at-loop .loop .k) (omega arith);
+    })
 
 pub hex-of-octets-spec : {M : Type 1} → statement M
 hex-of-octets-spec =

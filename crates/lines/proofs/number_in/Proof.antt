@@ -8,18 +8,19 @@ use denote.Ref.{now}
 use lib.Dec.{lit<}
 use lib.ListN.{length, getD, drop}
 use mathlib.Core.Bool.{true}
+use mathlib.Core.List.{[], _∷_}
 use mathlib.Core.Path.{_≡_, refl, sym, ap, _∙_}
 use native.Mathlib.Nat.{pow-zero}
 use native.Mathlib.Omega.{arith}
 use Rattle.refusals.specs.Refusal.{first}
-use Rattle.lines.specs.Digits.{digitValue, allDigits, numberFrom, numberOf, isNumber, numberOrder}
+use Rattle.lines.specs.Digits.{digitValue, allDigits, valueFrom, valueOf, isNumber, digitsOrder}
 use Rattle.lines.proofs.Digits.{within-both, within-below, within-above, digit-below, number-step, number-end, one-digit-more, number-fits}
 use Rattle.lines.proofs.number_in.Statement.{statement}
 use Rattle.lines.proofs.number_in.Tie as tie
 
 abbrev Inv-loop : tie.InvT-loop
 Inv-loop text base most value₀ i₀ value i =
-    (i ≤ length text) × (numberFrom base value (drop i text) ≡ numberOf base text) × (value < base ^ i)
+    (i ≤ length text) × (valueFrom base value (drop i text) ≡ valueOf base text) × (value < base ^ i)
 
 abbrev μ-loop : tie.MeasureT-loop
 μ-loop text base most value₀ i₀ value i = length text - i
@@ -39,28 +40,29 @@ next-fits c =
     (omega arith) (at-start .pre)
 
 returns : tie.Need-returns Inv-loop μ-loop
-unfolding first numberOrder isNumber
-returns c = record { refusal-is = rw (within-below 1 _ _ (c .if1 .taken)); value-is = refl }
+unfolding first digitsOrder isNumber
+returns c = record { refusal-is = rw (within-below 1 _ _ (c .if1 .taken)); numbers-are = refl; lent-is = refl }
 
 returns-2 : tie.Need-returns-2 Inv-loop μ-loop
-unfolding first numberOrder isNumber
-returns-2 c = record { refusal-is = rw (within-above 1 _ _ (omega arith) (c .if2 .taken)); value-is = refl }
+unfolding first digitsOrder isNumber
+returns-2 c = record { refusal-is = rw (within-above 1 _ _ (omega arith) (c .if2 .taken)); numbers-are = refl; lent-is = refl }
 
 all-digits-requires : tie.Need-all-digits-requires Inv-loop μ-loop
 all-digits-requires c κs = search needs
 
 returns-3 : tie.Need-returns-3 Inv-loop μ-loop
-unfolding first numberOrder isNumber
+unfolding first digitsOrder isNumber
 returns-3 c =
     let at-start = c .before .before .before .before .before in
     record {
       refusal-is =
           rw (within-both 1 (at-start .args .most) (length (now (at-start .args .text))) (omega arith) (omega arith), sym (c .before .all-digits .ensures) ∙ not-true _ (c .if3 .taken));
-      value-is = refl;
+      numbers-are = refl;
+      lent-is = refl;
     }
 
 loop-holds : tie.Need-loop-holds Inv-loop μ-loop
-unfolding numberOf
+unfolding valueOf
 loop-holds c = (search needs, refl, rw pow-zero (lit< tt))
 
 mul-value : tie.Need-mul-value Inv-loop μ-loop
@@ -92,7 +94,7 @@ loop-again c =
     let value : ℕ = at-loop .loop .value in
     let i : ℕ = at-loop .loop .i in (
       omega arith,
-      ap (λ (next : ℕ). numberFrom (given .base) (value * given .base + next) (drop (i + 1) text)) (c .digit .ensures)
+      ap (λ (next : ℕ). valueFrom (given .base) (value * given .base + next) (drop (i + 1) text)) (c .digit .ensures)
           ∙ sym (number-step (given .base) value text i (omega arith))
           ∙ at-loop .loop .inv .1,
       one-digit-more (given .base) value (c .digit .result) i (at-loop .loop .inv .2)
@@ -100,14 +102,16 @@ loop-again c =
     )
 
 returns-4 : tie.Need-returns-4 Inv-loop μ-loop
-unfolding first numberOrder isNumber
+unfolding first digitsOrder isNumber
 returns-4 c =
     let at-loop = c .before in
     let given = at-loop .before .before .before .before .before .before .args in
     let text = now (given .text) in
     record {
       refusal-is = rw (within-both 1 (given .most) (length text) (omega arith) (omega arith), are-digits (at-loop .before));
-      value-is = sym (number-end (given .base) (at-loop .loop .value) text (at-loop .loop .i) (omega arith)) ∙ at-loop .loop .inv .1;
+      numbers-are =
+          ap (λ (n : ℕ). n ∷ []) (sym (number-end (given .base) (at-loop .loop .value) text (at-loop .loop .i) (omega arith)) ∙ at-loop .loop .inv .1);
+      lent-is = refl;
     }
 
 pub number-in-spec : {M : Type 1} → statement M

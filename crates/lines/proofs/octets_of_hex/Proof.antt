@@ -7,13 +7,16 @@ use borrow.Author.Needs.{needs}
 use borrow.Author.Tests.{not-true, not-false, eq-eqb, ne-eqb}
 use denote.Ref.{now}
 use lib.ListN.{length, getD, take, drop, set}
-use mathlib.Core.Bool.{true}
-use mathlib.Core.List.{List, _++_}
+use mathlib.Core.Bool.{true, false}
+use mathlib.Core.List.{List, [], _∷_, _++_}
 use mathlib.Core.Path.{_≡_, refl, sym, ap, ap₂, _∙_}
+use Rattle.refusals.specs.Call.{Answered}
+use Rattle.refusals.proofs.Calls.{refused}
+use Rattle.octets.proofs.Listed.{length-front}
 use Rattle.lines.specs.Digits.{digitValue, allDigits}
-use Rattle.lines.specs.Text.{isHex, hexOctets}
+use Rattle.lines.specs.Text.{isHex, hexOctets, octetsOfHexCall}
 use Rattle.lines.proofs.Digits.{digit-below}
-use Rattle.lines.proofs.Text.{length-front, length-hexOctets, length-some-octets, octets-turn, octets-put, hex-bad, hex-no-room, hex-done}
+use Rattle.lines.proofs.Text.{length-hexOctets, length-some-octets, octets-turn, octets-put, room-short, room-enough, hex-bad, hex-good, put}
 use Rattle.lines.proofs.octets_of_hex.Statement.{statement}
 use Rattle.lines.proofs.octets_of_hex.Tie as tie
 
@@ -44,11 +47,16 @@ length-kept c =
     ∙ length-front (hexOctets (take (2 * c .loop .k) (now (given .text)))) (now (given .output)) (c .loop .k)
     (length-some-octets (now (given .text)) (c .loop .k) (omega arith)) (omega arith)
 
+-- a text that is not pairs of hex digits
+bad : (text before : List ℕ) → isHex text ≡ false → Answered (octetsOfHexCall text before) 2 (0 ∷ []) before
+bad text before is = refused (octetsOfHexCall text before) 2 (hex-bad text before is) (λ zero. omega arith)
+
 returns : tie.Need-returns Inv-loop μ-loop
 unfolding isHex
 returns c =
-    let text = now (c .before .before .before .args .text) in
-    hex-bad text _ (rw (ne-eqb (length text % 2) 0 (c .if1 .taken)))
+    let given = c .before .before .before .args in
+    let text = now (given .text) in
+    bad text (now (given .output)) (rw (ne-eqb (length text % 2) 0 (c .if1 .taken)))
 
 all-digits-requires : tie.Need-all-digits-requires Inv-loop μ-loop
 all-digits-requires c κs = search needs
@@ -56,8 +64,9 @@ all-digits-requires c κs = search needs
 returns-2 : tie.Need-returns-2 Inv-loop μ-loop
 unfolding isHex
 returns-2 c =
-    let text = now (c .before .before .before .before .before .args .text) in
-    hex-bad text _
+    let given = c .before .before .before .before .before .args in
+    let text = now (given .text) in
+    bad text (now (given .output))
     (rw (eq-eqb (length text % 2) 0 (omega arith), sym (c .before .all-digits .ensures) ∙ not-true _ (c .if2 .taken)))
 
 returns-3 : tie.Need-returns-3 Inv-loop μ-loop
@@ -65,7 +74,8 @@ returns-3 c =
     let given = c .before .before .before .before .before .before .args in
     let text = now (given .text) in
     let short : length (now (given .output)) < length (hexOctets text) = omega (arith, length-hexOctets text) in
-    hex-no-room text _ (are-hex (c .before)) short
+    refused (octetsOfHexCall text (now (given .output))) 4
+    (hex-good text (now (given .output)) (are-hex (c .before)) ∙ room-short (length (hexOctets text)) (now (given .output)) short) (λ zero. omega arith)
 
 loop-holds : tie.Need-loop-holds Inv-loop μ-loop
 unfolding hexOctets
@@ -131,8 +141,12 @@ returns-4 c =
     let at-loop = c .before in
     let given = at-loop .before .before .before .before .before .before .before .args in
     let text = now (given .text) in
-    hex-done text (now (given .output)) (are-hex (at-loop .before .before)) _ _ (length-hexOctets text) (omega arith)
-    (at-loop .loop .inv .1 ∙ octets-put text (now (given .output)) (at-loop .loop .k) (omega arith))
+    let before = now (given .output) in
+    put (hex-good text before (are-hex (at-loop .before .before)) ∙ room-enough (length (hexOctets text)) before (omega (arith, length-hexOctets text)))
+    (record {
+      written-is = sym (length-hexOctets text);
+      output-is = at-loop .loop .inv .1 ∙ octets-put text before (at-loop .loop .k) (omega arith);
+    })
 
 pub octets-of-hex-spec : {M : Type 1} → statement M
 octets-of-hex-spec =

@@ -1,38 +1,44 @@
--- The laws of an answer at the front of an output, and of a text from a place on.
+-- The laws of a text at the front of an output, and of a text from a place on.
 -- Assumes nothing.
 use Prim.Native.Nat.{ℕ, _+_, _-_, _≤_, _<_}
 use native.Mathlib.Nat.{zero-add}
 use native.Mathlib.Omega.{arith}
-use mathlib.Core.Path.{_≡_, refl, sym, ap, ap₂, _∙_}
+use mathlib.Core.Path.{_≡_, refl, sym, ap, ap₂, subst, _∙_}
 use mathlib.Core.List.{List, [], _∷_, _++_, append-assoc, append-nil}
 use lib.ListN.{length, take, drop, set, length-append, length-drop, drop-of-length-le}
 use lib.Seq.{sets, drop-drop, length-take-le, take-length, take-append-seam, drop-append-add}
-use Rattle.refusals.specs.Refusal.{lent}
-use Rattle.lines.specs.Text.{TextCall, Answered, Added}
-use Rattle.lines.proofs.Determined.{put-read, room-fits}
-use Rattle.lines.proofs.Text.{front-store, stored-front}
+use Rattle.refusals.specs.Call.{Answered, front}
+use Rattle.octets.proofs.Listed.{front-store}
+use Rattle.lines.specs.Text.{putTextCall, AtFront, Added}
+use Rattle.lines.proofs.Callers.{room-done}
+use Rattle.lines.proofs.Text.{stored-front}
 
 -- nothing is written
-pub answered-nothing : (before : List ℕ) → Answered [] before 0 before
-unfolding lent
-answered-nothing before = record { written-is = refl; output-is = refl }
+pub at-front-nothing : (before : List ℕ) → AtFront [] before 0 before
+unfolding front
+at-front-nothing before = record { written-is = refl; output-is = refl }
 
 -- octets stored one after the other
-pub answered-stored : (text before : List ℕ) (written : ℕ) → written ≡ length text → length text ≤ length before → Answered text before written (sets before 0 text)
-answered-stored text before written long room = record { written-is = long; output-is = stored-front text before room }
+pub at-front-stored : (text before : List ℕ) (written : ℕ) → written ≡ length text → length text ≤ length before → AtFront text before written (sets before 0 text)
+at-front-stored text before written long room = record { written-is = long; output-is = stored-front text before room }
+
+-- a text copied
+pub at-front-copied : (text before : List ℕ) {after : List ℕ} → after ≡ take (length text) text ++ drop (length text) before → AtFront text before (length text) after
+unfolding front
+at-front-copied text before is =
+    record { written-is = refl; output-is = is ∙ ap (λ (l : List ℕ). l ++ drop (length text) before) (take-length text) }
 
 -- a text that is the answer, put by a call that had room
-pub answered-put : {text before : List ℕ} {refusal count : ℕ} {after answer : List ℕ}
-    → TextCall text before refusal count after → length text ≤ length before → text ≡ answer → Answered answer before count after
-answered-put {text} {before} call room is =
-    let put = put-read call (room-fits (length text) call room) in
-    record { written-is = put .0 ∙ ap length is; output-is = put .1 ∙ ap (λ (l : List ℕ). lent 0 l before) is }
+pub at-front-put : (text before : List ℕ) {refusal count : ℕ} {after answer : List ℕ}
+    → Answered (putTextCall text before) refusal (count ∷ []) after → length text ≤ length before → text ≡ answer → AtFront answer before count after
+at-front-put text before {count = count} {after} answered room is =
+    subst (λ (l : List ℕ). AtFront l before count after) is (room-done (length text) text before answered room .1)
 
 -- one octet more
-pub answered-octet : {text before : List ℕ} {size : ℕ} {after : List ℕ} (octet : ℕ)
-    → Answered text before size after → length text < length before → Answered (text ++ octet ∷ []) before (size + 1) (set after size octet)
-unfolding lent
-answered-octet {text} {before} {size} {after} octet put room = record {
+pub at-front-octet : {text before : List ℕ} {size : ℕ} {after : List ℕ} (octet : ℕ)
+    → AtFront text before size after → length text < length before → AtFront (text ++ octet ∷ []) before (size + 1) (set after size octet)
+unfolding front
+at-front-octet {text} {before} {size} {after} octet put room = record {
   written-is = simp length-append (omega (arith, put .written-is));
   output-is =
       ap₂ (λ (l : List ℕ) (n : ℕ). set l n octet) (put .output-is) (put .written-is)
@@ -43,20 +49,20 @@ answered-octet {text} {before} {size} {after} octet put room = record {
 -- ---- a text from a place on
 
 -- a text put at the front of what lies from the place on, which is lent as `&mut output[place..]`
-pub added-put : (before : List ℕ) (place : ℕ) {text : List ℕ} {refusal count : ℕ} {last : List ℕ}
-    → TextCall text (take (length before - place) (drop place before)) refusal count last → place + length text ≤ length before
+pub added-put : (before : List ℕ) (place : ℕ) (text : List ℕ) {refusal count : ℕ} {last : List ℕ}
+    → Answered (putTextCall text (take (length before - place) (drop place before))) refusal (count ∷ []) last → place + length text ≤ length before
     → Added text before place (place + count) (take place before ++ (last ++ drop (length before - place) (drop place before)))
-unfolding lent
-added-put before place {text} call room =
+unfolding front
+added-put before place text answered room =
     let from : length (drop place before) ≡ length before - place = length-drop place before in
     let whole : take (length before - place) (drop place before) ≡ drop place before = ap (λ (n : ℕ). take n (drop place before)) (sym from) ∙ take-length (drop place before) in
-    let put = put-read call (room-fits (length text) call (rw whole (omega arith))) in
+    let put = room-done (length text) text _ answered (rw whole (omega arith)) .1 in
     record {
-      end-is = ap (λ (n : ℕ). place + n) (put .0);
+      end-is = ap (λ (n : ℕ). place + n) (put .written-is);
       output-is =
           ap (λ (l : List ℕ). take place before ++ l)
-          (ap₂ (λ (a b : List ℕ). a ++ b) (put .1 ∙ ap (lent 0 text) whole) (drop-of-length-le (drop place before) {i = length before - place} (omega arith))
-          ∙ append-nil (lent 0 text (drop place before))
+          (ap₂ (λ (a b : List ℕ). a ++ b) (put .output-is ∙ ap (front text) whole) (drop-of-length-le (drop place before) {i = length before - place} (omega arith))
+          ∙ append-nil (front text (drop place before))
           ∙ ap (λ (l : List ℕ). text ++ l) (drop-drop (length text) place before));
     }
 
@@ -82,18 +88,18 @@ added-octet {text} {before} {place} {end} {after} octet added room =
     }
 
 -- from place 0 on it is an answer
-pub answered-added : {text before : List ℕ} {end : ℕ} {after : List ℕ} → Added text before 0 end after → Answered text before end after
-unfolding lent
-answered-added {text} {before} added = record {
+pub at-front-added : {text before : List ℕ} {end : ℕ} {after : List ℕ} → Added text before 0 end after → AtFront text before end after
+unfolding front
+at-front-added {text} {before} added = record {
   written-is = omega (arith, added .end-is);
   output-is = added .output-is ∙ ap (λ (n : ℕ). text ++ drop n before) (zero-add (length text));
 }
 
 -- and from where an answer ends it goes on with it
-pub answered-more : {text more before : List ℕ} {size end : ℕ} {middle after : List ℕ}
-    → Answered text before size middle → Added more middle size end after → Answered (text ++ more) before end after
-unfolding lent
-answered-more {text} {more} {before} {size} {end} {middle} {after} put added =
+pub at-front-more : {text more before : List ℕ} {size end : ℕ} {middle after : List ℕ}
+    → AtFront text before size middle → Added more middle size end after → AtFront (text ++ more) before end after
+unfolding front
+at-front-more {text} {more} {before} {size} {end} {middle} {after} put added =
     let past : List ℕ = drop (length text) before in
     record {
       written-is = simp length-append (omega (arith, put .written-is, added .end-is));
