@@ -7,8 +7,8 @@ use mathlib.Core.Path.{_≡_, refl, sym, ap, ap₂, _∙_}
 use mathlib.Core.List.{List, _++_, append-assoc}
 use lib.ListN.{length, getD, take, drop, set, length-append, length-drop, take-append-drop}
 use lib.Seq.{length-take-le, take-at, drop-at, take-append-le, drop-append-le, drop-drop, getD-set-same, getD-set-other}
-use Rattle.bench.specs.declared.Shelf.{Shelf}
-use Rattle.bench.specs.Ends.{frameKept, shelved}
+use Rattle.demo.specs.declared.play.Shelf.{Shelf}
+use Rattle.demo.specs.Ends.{frameKept, shelved}
 
 module _ (shelf : Shelf) (k : ℕ) (frame : List ℕ) (place : k < 10) (short : length frame ≤ 46) (frames : length (shelf .frames) ≡ 460) where
   before : List ℕ

@@ -1,6 +1,4 @@
--- The laws of columns, of the ends, of the shelf and of the lines of a script, what a run of the calls writes, what the contracts determine, and an
--- example.
-pub mod Determined
+-- The laws of words, columns, the ends, the shelf and the lines of a script, what `demo` writes, and an example.
 pub mod Ends
 pub mod Example
 pub mod Kept
@@ -8,3 +6,4 @@ pub mod Lines
 pub mod Run
 pub mod Steps
 pub mod Texts
+pub mod Words

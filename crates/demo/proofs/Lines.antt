@@ -10,15 +10,18 @@ use borrow.Author.Tests.{eqb-true, eqb-false, eq-eqb, ne-eqb, lt-ltb, le-ltb, le
 use lib.Dec.{eqb, lit≤}
 use lib.ListN.{length, getD, take, drop}
 use lib.Seq.{drop-length}
-use Rattle.lines.specs.Digits.{within, numberOf, isNumber, NumberCall}
-use Rattle.lines.specs.Text.{isHex, HexCall}
-use Rattle.lines.proofs.Determined.{number-none, number-read, number-refused, put-read, hex-fits, hex-read}
-use Rattle.lines.proofs.Digits.{by-test, within-both, within-below, within-above, within-to, from-place, number-below, number-size, number-digits}
+use Rattle.refusals.specs.Call.{Answered}
+use Rattle.refusals.proofs.Tests.{by-test}
+use Rattle.lines.specs.Digits.{within, valueOf, isNumber, digitsCall, decimalCall}
+use Rattle.lines.specs.Text.{isHex, hexOrder, hexOctets, octetsOfHexCall}
+use Rattle.lines.proofs.Callers.{number-none, number-read, number-refused, put-done, hex-fits, hex-read}
+use Rattle.lines.proofs.Digits.{within-both, within-below, within-above, within-to, from-place, number-below, number-size, number-digits}
 use Rattle.lines.proofs.Text.{length-hexOctets}
-use Rattle.bench.specs.declared.Bench.{Bench}
-use Rattle.bench.specs.Columns.{allPrintable}
-use Rattle.bench.specs.Script.{passing, losing, keeping, giving, noising, nothing, remarking, begins, remarkWord, passWord, loseWord, keepWord, giveWord, noiseWord, countOf, placeOf, loseLine, keepLine, giveLine, noiseLine, commanded, obeyed}
-use Rattle.bench.proofs.Texts.{written-text}
+use Rattle.demo.specs.declared.play.Stage.{Stage}
+use Rattle.demo.specs.Words.{quoted}
+use Rattle.demo.specs.Columns.{allPrintable}
+use Rattle.demo.specs.Script.{passing, losing, keeping, giving, noising, nothing, remarking, begins, countOf, placeOf, loseLine, keepLine, giveLine, noiseLine, commanded, obeyed}
+use Rattle.demo.proofs.Texts.{written-text}
 
 -- ---- the words of a line
 
@@ -28,7 +31,7 @@ unfolding begins
 begins-short [] line short = absurd (not-suc-le-zero short)
 begins-short (octet ∷ rest) [] short = refl
 begins-short (octet ∷ rest) (other ∷ line) short =
-    by-test (eqb octet other) (λ same. rw same (begins-short rest line (le-of-suc-le-suc short))) (λ differs. rw differs)
+    by-test (eqb octet other) _ (λ same. rw same (begins-short rest line (le-of-suc-le-suc short))) (λ differs. rw differs)
 
 module _ (text line : List ℕ) (i : ℕ) where
   begins-step : i < length text → i < length line
@@ -66,139 +69,141 @@ pub count-long : (text : List ℕ) → 3 < length text → 0 ≡ countOf text
 unfolding countOf isNumber
 count-long text long = rw (within-above 1 3 (length text) (omega arith) long)
 
-read-value : {base most : ℕ} {text : List ℕ} {refusal value : ℕ} → NumberCall base most text refusal value → value ≡ cond (isNumber base most text) (numberOf base text) 0
-read-value {refusal = refusal} call =
-    by-test (eqb refusal 0)
-    (λ done. let read = number-read call (eqb-true refusal 0 done) in rw (read .0) (read .1))
-    (λ refused. rw (number-none call (eqb-false refusal 0 refused)) (number-refused call (eqb-false refusal 0 refused)))
+-- what is read of a text, whether it is a number or not
+read-value : (base most : ℕ) (text : List ℕ) {refusal value : ℕ} → Answered (digitsCall base most text) refusal (value ∷ []) tt
+    → value ≡ cond (isNumber base most text) (valueOf base text) 0
+read-value base most text {refusal} {value} answered =
+    by-test (eqb refusal 0) (value ≡ cond (isNumber base most text) (valueOf base text) 0)
+    (λ done. let read = number-read base most text answered (eqb-true refusal 0 done) in rw (read .0) (read .1))
+    (λ refused. rw (number-none base most text answered (eqb-false refusal 0 refused)) (number-refused base most text answered (eqb-false refusal 0 refused)))
 
 module _ (text : List ℕ) where
   same-number : length text ≤ 3 → isNumber 10 10 text ≡ isNumber 10 3 text
   unfolding isNumber within
   same-number short = rw (le-leb (length text) 3 short, le-leb (length text) 10 (omega arith))
 
-  below-1000 : isNumber 10 3 text ≡ true → numberOf 10 text < 1000
+  below-1000 : isNumber 10 3 text ≡ true → valueOf 10 text < 1000
   below-1000 number =
       lt-of-lt-of-le (number-below 10 text (number-digits 10 3 text number))
       (pow-le-pow-right (lit≤ tt) {j = 3} (within-to 1 3 (length text) (number-size 10 3 text number)))
 
   pub count-below : countOf text < 1000
   unfolding countOf
-  count-below = by-test (isNumber 10 3 text) (λ number. rw number (below-1000 number)) (λ none. rw none (lit≤ tt))
+  count-below = by-test (isNumber 10 3 text) (countOf text < 1000) (λ number. rw number (below-1000 number)) (λ none. rw none (lit≤ tt))
 
-  pub count-read : {refusal value : ℕ} → length text ≤ 3 → NumberCall 10 10 text refusal value → value ≡ countOf text
+  pub count-read : {refusal value : ℕ} → length text ≤ 3 → Answered (decimalCall text) refusal (value ∷ []) tt → value ≡ countOf text
   unfolding countOf
-  count-read short call = read-value call ∙ ap (λ (b : Bool). cond b (numberOf 10 text) 0) (same-number short)
+  count-read short answered = read-value 10 10 text answered ∙ ap (λ (b : Bool). cond b (valueOf 10 text) 0) (same-number short)
 
 -- ---- which line is which
 
-module _ (bench : Bench) (rest : List ℕ) where
-  pub lose-none : {count : ℕ} → count ≡ countOf rest → count ≡ 0 → nothing bench 20 ≡ loseLine bench rest
+module _ (stage : Stage) (rest : List ℕ) where
+  pub lose-none : {count : ℕ} → count ≡ countOf rest → count ≡ 0 → nothing stage (quoted "count") ≡ loseLine stage rest
   unfolding loseLine
   lose-none is none = rw (eq-eqb (countOf rest) 0 (sym is ∙ none))
 
-  pub lose-some : {count : ℕ} → count ≡ countOf rest → (count ≡ 0 → ⊥) → losing bench count ≡ loseLine bench rest
+  pub lose-some : {count : ℕ} → count ≡ countOf rest → (count ≡ 0 → ⊥) → losing stage count ≡ loseLine stage rest
   unfolding loseLine
-  lose-some is some = ap (losing bench) is ∙ rw (ne-eqb (countOf rest) 0 (λ none. some (is ∙ none)))
+  lose-some is some = ap (losing stage) is ∙ rw (ne-eqb (countOf rest) 0 (λ none. some (is ∙ none)))
 
-  pub keep-short : length rest < 2 → nothing bench 21 ≡ keepLine bench rest
+  pub keep-short : length rest < 2 → nothing stage (quoted "place") ≡ keepLine stage rest
   unfolding keepLine
   keep-short short = rw (lt-ltb (length rest) 2 short)
 
   module _ {k : ℕ} (place : k ≡ placeOf (getD rest 0 0)) where
     module _ (long : 2 ≤ length rest) where
-      pub keep-nowhere : 9 < k → nothing bench 21 ≡ keepLine bench rest
+      pub keep-nowhere : 9 < k → nothing stage (quoted "place") ≡ keepLine stage rest
       unfolding keepLine
       keep-nowhere high = rw (le-ltb (length rest) 2 long, lt-ltb 9 (placeOf (getD rest 0 0)) (omega arith))
 
       module _ (low : k ≤ 9) where
-        pub keep-there : {text : List ℕ} → getD rest 1 0 ≡ 32 → text ≡ drop 2 rest → keeping bench k text ≡ keepLine bench rest
+        pub keep-there : {text : List ℕ} → getD rest 1 0 ≡ 32 → text ≡ drop 2 rest → keeping stage k text ≡ keepLine stage rest
         unfolding keepLine
         keep-there space is =
-            ap₂ (keeping bench) place is
+            ap₂ (keeping stage) place is
             ∙ rw (le-ltb (length rest) 2 long, le-ltb 9 (placeOf (getD rest 0 0)) (omega arith), eq-eqb (getD rest 1 0) 32 space)
 
-        pub keep-unspaced : (getD rest 1 0 ≡ 32 → ⊥) → nothing bench 21 ≡ keepLine bench rest
+        pub keep-unspaced : (getD rest 1 0 ≡ 32 → ⊥) → nothing stage (quoted "place") ≡ keepLine stage rest
         unfolding keepLine
         keep-unspaced other =
             rw (le-ltb (length rest) 2 long, le-ltb 9 (placeOf (getD rest 0 0)) (omega arith), ne-eqb (getD rest 1 0) 32 other)
 
     module _ (one : length rest ≡ 1) where
-      pub give-nowhere : 9 < k → nothing bench 21 ≡ giveLine bench rest
+      pub give-nowhere : 9 < k → nothing stage (quoted "place") ≡ giveLine stage rest
       unfolding giveLine
       give-nowhere high = rw (eq-eqb (length rest) 1 one, lt-ltb 9 (placeOf (getD rest 0 0)) (omega arith))
 
-      pub give-there : k ≤ 9 → giving bench k ≡ giveLine bench rest
+      pub give-there : k ≤ 9 → giving stage k ≡ giveLine stage rest
       unfolding giveLine
-      give-there low = ap (giving bench) place ∙ rw (eq-eqb (length rest) 1 one, le-ltb 9 (placeOf (getD rest 0 0)) (omega arith))
+      give-there low = ap (giving stage) place ∙ rw (eq-eqb (length rest) 1 one, le-ltb 9 (placeOf (getD rest 0 0)) (omega arith))
 
-  pub give-other : (length rest ≡ 1 → ⊥) → nothing bench 21 ≡ giveLine bench rest
+  pub give-other : (length rest ≡ 1 → ⊥) → nothing stage (quoted "place") ≡ giveLine stage rest
   unfolding giveLine
   give-other other = rw (ne-eqb (length rest) 1 other)
 
   -- pairs of hex digits in a line are few enough for the room that they are lent
-  module _ (few : length rest ≤ 48) {before after : List ℕ} {refusal count : ℕ} (room : length before ≡ 46) (call : HexCall rest before refusal count after) where
-    pub noise-none : (refusal ≡ 0 → ⊥) → nothing bench 22 ≡ noiseLine bench rest
+  module _ (few : length rest ≤ 48) (before : List ℕ) (room : length before ≡ 46) {after : List ℕ} {refusal count : ℕ}
+      (answered : Answered (octetsOfHexCall rest before) refusal (count ∷ []) after) where
+    pub noise-none : (refusal ≡ 0 → ⊥) → nothing stage (quoted "hex") ≡ noiseLine stage rest
     unfolding noiseLine
     noise-none refused =
-        by-test (isHex rest)
-        (λ good. absurd (refused (hex-fits rest call good (omega (arith, length-hexOctets rest)))))
+        by-test (isHex rest) (nothing stage (quoted "hex") ≡ noiseLine stage rest)
+        (λ good. absurd (refused (hex-fits rest before answered good (omega (arith, length-hexOctets rest)))))
         (λ bad. rw bad)
 
-    pub noise-some : refusal ≡ 0 → noising bench (take count after) ≡ noiseLine bench rest
+    pub noise-some : refusal ≡ 0 → noising stage (take count after) ≡ noiseLine stage rest
     unfolding noiseLine
     noise-some done =
-        let put = put-read call done in
-        ap (noising bench) (written-text (record { written-is = put .0; output-is = put .1 })) ∙ rw (hex-read rest call done)
+        ap (noising stage) (written-text (put-done (hexOrder rest before) (hexOctets rest) before answered done)) ∙ rw (hex-read rest before answered done)
 
-module _ (bench : Bench) (line : List ℕ) where
-  pub is-pass : {text : List ℕ} → begins passWord line ≡ true → text ≡ drop 5 line → passing bench text ≡ commanded bench line
+module _ (stage : Stage) (line : List ℕ) where
+  pub is-pass : {text : List ℕ} → begins (quoted "pass ") line ≡ true → text ≡ drop 5 line → passing stage text ≡ commanded stage line
   unfolding commanded
-  is-pass pass is = ap (passing bench) is ∙ rw pass
+  is-pass pass is = ap (passing stage) is ∙ rw pass
 
-  module _ (no-pass : begins passWord line ≡ false) where
-    pub is-lose : {text : List ℕ} → begins loseWord line ≡ true → text ≡ drop 5 line → loseLine bench text ≡ commanded bench line
+  module _ (no-pass : begins (quoted "pass ") line ≡ false) where
+    pub is-lose : {text : List ℕ} → begins (quoted "lose ") line ≡ true → text ≡ drop 5 line → loseLine stage text ≡ commanded stage line
     unfolding commanded
-    is-lose lose is = ap (loseLine bench) is ∙ rw (no-pass, lose)
+    is-lose lose is = ap (loseLine stage) is ∙ rw (no-pass, lose)
 
-    module _ (no-lose : begins loseWord line ≡ false) where
-      pub is-keep : {text : List ℕ} → begins keepWord line ≡ true → text ≡ drop 5 line → keepLine bench text ≡ commanded bench line
+    module _ (no-lose : begins (quoted "lose ") line ≡ false) where
+      pub is-keep : {text : List ℕ} → begins (quoted "keep ") line ≡ true → text ≡ drop 5 line → keepLine stage text ≡ commanded stage line
       unfolding commanded
-      is-keep keep is = ap (keepLine bench) is ∙ rw (no-pass, no-lose, keep)
+      is-keep keep is = ap (keepLine stage) is ∙ rw (no-pass, no-lose, keep)
 
-      module _ (no-keep : begins keepWord line ≡ false) where
-        pub is-give : {text : List ℕ} → begins giveWord line ≡ true → text ≡ drop 5 line → giveLine bench text ≡ commanded bench line
+      module _ (no-keep : begins (quoted "keep ") line ≡ false) where
+        pub is-give : {text : List ℕ} → begins (quoted "give ") line ≡ true → text ≡ drop 5 line → giveLine stage text ≡ commanded stage line
         unfolding commanded
-        is-give give is = ap (giveLine bench) is ∙ rw (no-pass, no-lose, no-keep, give)
+        is-give give is = ap (giveLine stage) is ∙ rw (no-pass, no-lose, no-keep, give)
 
-        module _ (no-give : begins giveWord line ≡ false) where
-          pub is-noise : {text : List ℕ} → begins noiseWord line ≡ true → text ≡ drop 6 line → noiseLine bench text ≡ commanded bench line
+        module _ (no-give : begins (quoted "give ") line ≡ false) where
+          pub is-noise : {text : List ℕ} → begins (quoted "noise ") line ≡ true → text ≡ drop 6 line → noiseLine stage text ≡ commanded stage line
           unfolding commanded
-          is-noise noise is = ap (noiseLine bench) is ∙ rw (no-pass, no-lose, no-keep, no-give, noise)
+          is-noise noise is = ap (noiseLine stage) is ∙ rw (no-pass, no-lose, no-keep, no-give, noise)
 
-          pub is-none : begins noiseWord line ≡ false → nothing bench 19 ≡ commanded bench line
+          pub is-none : begins (quoted "noise ") line ≡ false → nothing stage (quoted "command") ≡ commanded stage line
           unfolding commanded
           is-none no-noise = rw (no-pass, no-lose, no-keep, no-give, no-noise)
 
-  pub is-long : 48 < length line → nothing bench 16 ≡ obeyed bench line
+  pub is-long : 48 < length line → nothing stage (quoted "long") ≡ obeyed stage line
   unfolding obeyed
   is-long long = rw (lt-ltb 48 (length line) long)
 
   module _ (short : length line ≤ 48) where
-    pub is-empty : length line ≡ 0 → nothing bench 17 ≡ obeyed bench line
+    pub is-empty : length line ≡ 0 → nothing stage (quoted "empty") ≡ obeyed stage line
     unfolding obeyed
     is-empty empty = rw (le-ltb 48 (length line) short, eq-eqb (length line) 0 empty)
 
     module _ (some : length line ≡ 0 → ⊥) where
-      pub is-octet : allPrintable line ≡ false → nothing bench 18 ≡ obeyed bench line
+      pub is-octet : allPrintable line ≡ false → nothing stage (quoted "octet") ≡ obeyed stage line
       unfolding obeyed
       is-octet other = rw (le-ltb 48 (length line) short, ne-eqb (length line) 0 some, other)
 
       module _ (printable : allPrintable line ≡ true) where
-        pub is-remark : begins remarkWord line ≡ true → remarking bench line ≡ obeyed bench line
+        pub is-remark : begins (quoted "#") line ≡ true → remarking stage line ≡ obeyed stage line
         unfolding obeyed
         is-remark remark = rw (le-ltb 48 (length line) short, ne-eqb (length line) 0 some, printable, remark)
 
-        pub is-command : begins remarkWord line ≡ false → commanded bench line ≡ obeyed bench line
+        pub is-command : begins (quoted "#") line ≡ false → commanded stage line ≡ obeyed stage line
         unfolding obeyed
         is-command other = rw (le-ltb 48 (length line) short, ne-eqb (length line) 0 some, printable, other)

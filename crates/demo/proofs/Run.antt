@@ -1,36 +1,37 @@
--- A run of the calls writes what the bench is to write: `header`, `start`, `hear` for each octet of the script, then `finish`. Assumes nothing.
-use Prim.Native.Nat.{ℕ, _≤_, _<_}
+-- What `demo` writes for a whole script: `put_heading`, `new_play`, `hear` for each octet of the script, then `finish`. Assumes nothing.
+use Prim.Native.Nat.{ℕ, _<_}
 use mathlib.Core.Path.{_≡_, sym, ap, ap₂, _∙_}
 use mathlib.Core.List.{List, _++_}
 use lib.Dec.{lit≤}
 use lib.ListN.{length, take}
-use Rattle.lines.specs.declared.Put.{Put}
+use Rattle.lines.specs.Text.{AtFront}
 use Rattle.lines.specs.Hearing.{tooLong}
 use Rattle.lines.specs.Lines.{Run}
 use Rattle.lines.proofs.Hearing.{LongAlike}
-use Rattle.lines.proofs.Run.{with-room, run-writes-answers}
-use Rattle.bench.specs.declared.Bench.{Bench}
-use Rattle.bench.specs.declared.Play.{Play}
-use Rattle.bench.specs.Script.{Step, obeyed}
-use Rattle.bench.specs.Bench.{room, answer, after, benchRules, standing, benchStart, start, benchOutput, HeaderCall}
-use Rattle.bench.proofs.Lines.{is-long}
+use Rattle.lines.proofs.Run.{run-writes-answers}
+use Rattle.demo.specs.declared.play.Stage.{Stage}
+use Rattle.demo.specs.declared.play.Play.{Play}
+use Rattle.demo.specs.Script.{Step, obeyed}
+use Rattle.demo.specs.Play.{answer, after, demoRules, standing, newStage, newPlay, heading, demoOutput}
+use Rattle.demo.proofs.Lines.{is-long}
+use Rattle.demo.proofs.Texts.{written-text}
 
--- a line that is too long is answered, and changes the bench, like any other that is
-long-same : (bench : Bench) (line : List ℕ) → 48 < length line → obeyed bench line ≡ obeyed bench tooLong
+-- a line that is too long is answered, and changes the stage, like any other that is
+long-same : (stage : Stage) (line : List ℕ) → 48 < length line → obeyed stage line ≡ obeyed stage tooLong
 unfolding tooLong
-long-same bench line long = sym (is-long bench line long) ∙ is-long bench tooLong (lit≤ tt)
+long-same stage line long = sym (is-long stage line long) ∙ is-long stage tooLong (lit≤ tt)
 
-pub bench-alike : LongAlike benchRules
+pub demo-alike : LongAlike demoRules
 unfolding answer after
-bench-alike = record {
-  answer-alike = λ bench line long. ap (λ (s : Step). s .said) (long-same bench line long);
-  after-alike = λ bench line long. ap (λ (s : Step). s .bench) (long-same bench line long);
+demo-alike = record {
+  answer-alike = λ stage line long. ap (λ (s : Step). s .said) (long-same stage line long);
+  after-alike = λ stage line long. ap (λ (s : Step). s .stage) (long-same stage line long);
 }
 
--- the whole run: the heading, and from `start` on the answers
-pub run-writes-bench : {before : List ℕ} {put : Put} {after : List ℕ} {play : Play} {input output : List ℕ}
-    → room ≤ length before → HeaderCall before put after → play ≡ start → Run benchRules (standing play) input output
-    → take (put .count) after ++ output ≡ benchOutput input
-unfolding benchOutput start
-run-writes-bench enough call begun moved =
-    ap₂ (λ (a b : List ℕ). a ++ b) (with-room benchRules enough call) (run-writes-answers benchRules bench-alike benchStart (ap standing begun) moved)
+-- the whole run: the heading, and from `new_play` on the answers to the lines
+pub demo-writes : {before put : List ℕ} {written : ℕ} {play : Play} {input output : List ℕ}
+    → AtFront heading before written put → play ≡ newPlay → Run demoRules (standing play) input output
+    → take written put ++ output ≡ demoOutput input
+unfolding demoOutput newPlay
+demo-writes headed begun moved =
+    ap₂ (λ (a b : List ℕ). a ++ b) (written-text headed) (run-writes-answers demoRules demo-alike newStage (ap standing begun) moved)

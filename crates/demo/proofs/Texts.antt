@@ -12,12 +12,12 @@ use lib.Dec.{lit≤}
 use lib.ListN.{length, getD, take, drop, set, replicate, length-append, length-drop, take-append-drop}
 use lib.Seq.{length-take-le, take-append-seam, take-suc, take-at, drop-at, drop-drop, drop-append-le, drop-length, take-length}
 use Rattle.lines.specs.Digits.{within}
-use Rattle.refusals.specs.Refusal.{lent}
-use Rattle.lines.specs.Text.{decimalText, Answered, Added}
+use Rattle.refusals.specs.Call.{front}
+use Rattle.octets.proofs.Listed.{front-store}
+use Rattle.lines.specs.Text.{decimalText, AtFront, Added}
 use Rattle.lines.proofs.Digits.{within-both, within-below, within-above, from-place}
 use Rattle.lines.proofs.InDecimal.{decimal-one, length-more}
-use Rattle.lines.proofs.Text.{front-store}
-use Rattle.bench.specs.Columns.{column, words, shown, shownText, textColumn, allPrintable}
+use Rattle.demo.specs.Columns.{column, shown, shownText, textColumn, allPrintable}
 
 -- ---- a text over another, and a text after another
 
@@ -44,28 +44,33 @@ module _ {a b before middle after : List ℕ} {place end last : ℕ} (room : pla
   pub added-more : Added b middle end last after → Added (a ++ b) before place last after
   added-more other =
       let head : length (take place before) ≡ place = length-take-le place before (omega arith) in
-      let front : List ℕ = take place before ++ a in
+      let sofar : List ℕ = take place before ++ a in
       let kept : List ℕ = drop (place + length a) before in
-      let long : length front ≡ end = simp length-append (omega (arith, one .end-is)) in
+      let long : length sofar ≡ end = simp length-append (omega (arith, one .end-is)) in
       let both : place + length a + length b ≡ place + length (a ++ b) = simp length-append (omega arith) in
-      let is : middle ≡ front ++ kept = one .output-is ∙ sym (append-assoc (take place before) a kept) in
+      let is : middle ≡ sofar ++ kept = one .output-is ∙ sym (append-assoc (take place before) a kept) in
       record {
         end-is = simp length-append (omega (arith, one .end-is, other .end-is));
         output-is =
             other .output-is
             ∙ ap₂ (λ (p q : List ℕ). p ++ (b ++ q))
-            (ap (take end) is ∙ take-at front kept end long)
-            (sym (drop-drop (length b) end middle) ∙ ap (λ (l : List ℕ). drop (length b) (drop end l)) is ∙ ap (drop (length b)) (drop-at front kept end long)
+            (ap (take end) is ∙ take-at sofar kept end long)
+            (sym (drop-drop (length b) end middle) ∙ ap (λ (l : List ℕ). drop (length b) (drop end l)) is ∙ ap (drop (length b)) (drop-at sofar kept end long)
             ∙ drop-drop (length b) (place + length a) before ∙ ap (λ (n : ℕ). drop n before) both)
             ∙ append-assoc (take place before) a (b ++ drop (place + length (a ++ b)) before)
             ∙ ap (λ (l : List ℕ). take place before ++ l) (sym (append-assoc a b (drop (place + length (a ++ b)) before)));
       }
 
 -- what is written at the front is the text
-pub written-text : {text before : List ℕ} {written : ℕ} {after : List ℕ} → Answered text before written after → take written after ≡ text
-unfolding lent
+pub written-text : {text before : List ℕ} {written : ℕ} {after : List ℕ} → AtFront text before written after → take written after ≡ text
+unfolding front
 written-text {text} {before} put =
     ap₂ (λ (n : ℕ) (l : List ℕ). take n l) (put .written-is) (put .output-is) ∙ take-append-seam text (drop (length text) before)
+
+-- and lies within the output
+pub front-within : {text before : List ℕ} {written : ℕ} {after : List ℕ} → AtFront text before written after → written ≤ length after
+unfolding front
+front-within {text} {before} put = omega (arith, put .written-is, ap length (put .output-is), length-append text (drop (length text) before))
 
 -- a text over an empty column is a column
 pub column-put : {text before middle after : List ℕ} {place end last : ℕ} → place + 11 ≤ length before → length text ≤ 11
@@ -77,11 +82,7 @@ pub length-column : (text : List ℕ) → length text ≤ 11 → length (column 
 unfolding column
 length-column text short = simp (length-append, length-drop) (omega arith)
 
--- ---- words and numbers
-
-pub length-words : length words ≡ 240
-unfolding words
-length-words = refl
+-- ---- numbers
 
 -- a number below 1,000 has at most three digits
 below-ten : (number : ℕ) → number < 10 → length (decimalText number) ≤ 1

@@ -1,4 +1,4 @@
--- `bench::acts::frame_at` meets its contract: at most 46 octets of the place.
+-- `demo::acts::frame_at` meets its contract: at most 46 octets of the place.
 -- Assumes nothing.
 use Prim.Native.Nat.{ℕ, _+_, _-_, _*_, min}
 use denote.Ref.{now}
@@ -6,8 +6,8 @@ use lib.ListN.{take, drop}
 use mathlib.Core.Path.{_≡_, ap}
 use native.Mathlib.Omega.{arith}
 use borrow.Author.Needs.{needs}
-use Rattle.bench.proofs.acts.frame_at.Statement.{statement}
-use Rattle.bench.proofs.acts.frame_at.Tie as tie
+use Rattle.demo.proofs.acts.frame_at.Statement.{statement}
+use Rattle.demo.proofs.acts.frame_at.Tie as tie
 
 mul-from : tie.Need-mul-from
 mul-from c = search needs

@@ -1,4 +1,4 @@
--- `bench::acts::hand` meets its contract: what the link answers is shown.
+-- `demo::acts::hand` meets its contract: what the cell answers is shown.
 -- Assumes nothing.
 use Prim.Native.Nat.{_≤_}
 use denote.Ref.{now}
@@ -6,20 +6,23 @@ use lib.ListN.{length, take}
 use lib.Seq.{length-take-le}
 use mathlib.Core.Path.{_≡_, sym}
 use native.Mathlib.Omega.{arith}
-use Rattle.bench.specs.Ends.{frameRoom, opened}
-use Rattle.bench.proofs.Ends.{open-answers, open-text, opened-known, opened-fits}
-use Rattle.bench.proofs.Steps.{handed}
+use Rattle.refusals.proofs.Calls.{is-outcome}
+use Rattle.numbering.specs.Numbering.{width}
+use Rattle.receiver.specs.Receiver.{openCall}
+use Rattle.demo.specs.Ends.{frameRoom}
+use Rattle.demo.proofs.Ends.{opened-fits}
+use Rattle.demo.proofs.Steps.{handed}
 use borrow.Author.Needs.{needs}
-use Rattle.bench.proofs.acts.hand.Statement.{statement}
-use Rattle.bench.proofs.acts.hand.Tie as tie
-
-answered : (c : tie.After-open) → c .«open» .result ≡ opened (c .before .before .before .before .args .cell) (now (c .before .before .before .before .args .octets))
-unfolding frameRoom
-answered c = open-answers (c .before .before .before .before .args .cell) (now (c .before .before .before .before .args .octets)) (c .«open» .ensures)
+use Rattle.demo.proofs.acts.hand.Statement.{statement}
+use Rattle.demo.proofs.acts.hand.Tie as tie
 
 -- the text is within the room that was lent
+fits : (c : tie.After-open) → c .«open» .result .size ≤ 46
+unfolding frameRoom
+fits c = opened-fits (c .before .before .before .before .args .cell) (now (c .before .before .before .before .args .octets)) (c .«open» .ensures)
+
 within : (c : tie.After-open) → c .«open» .result .size ≤ length (c .«open» .last .1 .1 .0)
-within c = omega (arith, opened-fits _ _ (answered c), c .«open» .kept .1 .1 .0)
+within c = omega (arith, fits c, c .«open» .kept .1 .1 .0)
 
 slice-aggregate-open : tie.Need-slice-aggregate-open
 slice-aggregate-open c = search needs
@@ -36,11 +39,9 @@ slice-aggregate-add-cell c = sym (length-take-le _ _ (within (c .before .before 
 add-cell-requires : tie.Need-add-cell-requires
 add-cell-requires c κs =
     let at-open = c .before .before .before .before .before in
-    let known = opened-known _ _ (answered at-open) in
-    let fits = opened-fits _ _ (answered at-open) in
     let size = at-open .«open» .result .size in
     let long : length (take size (at-open .«open» .last .1 .1 .0)) ≡ size = length-take-le size (at-open .«open» .last .1 .1 .0) (within at-open) in
-    (omega arith, (omega (arith, long), search needs))
+    (omega (arith, fits at-open), search needs)
 
 same-length : tie.Need-same-length
 same-length c = search needs
@@ -49,8 +50,8 @@ returns : tie.Need-returns
 unfolding frameRoom
 returns c =
     let at-open = c .before .before .before .before .before .before .before .before in
-    let at-start = at-open .before .before .before .before in
-    handed (answered at-open) (open-text (at-start .args .cell) (now (at-start .args .octets)) (at-open .«open» .ensures)) (c .before .before .add-cell .ensures)
+    let given = at-open .before .before .before .before .args in
+    handed (given .cell) (now (given .octets)) (is-outcome (openCall width (given .cell) (now (given .octets)) frameRoom) (at-open .«open» .ensures)) (c .before .before .add-cell .ensures)
 
 pub hand-spec : {M : Type 1} → statement M
 hand-spec =

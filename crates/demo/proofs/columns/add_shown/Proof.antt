@@ -1,4 +1,4 @@
--- `bench::columns::add_shown` meets its contract. The loop's invariant: the first i octets of the text are shown from the place on. The measure is how
+-- `demo::columns::add_shown` meets its contract. The loop's invariant: the first i octets of the text are shown from the place on. The measure is how
 -- many octets are left.
 -- Assumes nothing.
 use Prim.Native.Nat.{ℕ, _+_, _-_, _≤_}
@@ -8,11 +8,11 @@ use mathlib.Core.List.{List}
 use mathlib.Core.Path.{_≡_, sym, ap, subst, _∙_}
 use native.Mathlib.Omega.{arith}
 use Rattle.lines.specs.Text.{Added}
-use Rattle.bench.specs.Columns.{shownText}
-use Rattle.bench.proofs.Texts.{shownSoFar, shown-none, length-so-far, shown-turn, shown-put}
+use Rattle.demo.specs.Columns.{shownText}
+use Rattle.demo.proofs.Texts.{shownSoFar, shown-none, length-so-far, shown-turn, shown-put}
 use borrow.Author.Needs.{needs}
-use Rattle.bench.proofs.columns.add_shown.Statement.{statement}
-use Rattle.bench.proofs.columns.add_shown.Tie as tie
+use Rattle.demo.proofs.columns.add_shown.Statement.{statement}
+use Rattle.demo.proofs.columns.add_shown.Tie as tie
 
 abbrev Inv-loop : tie.InvT-loop
 Inv-loop text output₀ place i₀ output i = (i ≤ length text) × (output ≡ shownSoFar text output₀ place i)

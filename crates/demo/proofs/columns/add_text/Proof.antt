@@ -1,28 +1,19 @@
--- `bench::columns::add_text` meets its contract: a hyphen, or the text as it is shown.
+-- `demo::columns::add_text` meets its contract: a hyphen, or the text as it is shown.
 -- Assumes nothing.
 use denote.Ref.{now}
-use mathlib.Core.Path.{refl, sym}
+use mathlib.Core.Path.{sym}
 use native.Mathlib.Omega.{arith}
-use Rattle.lines.proofs.Answered.{added-put, added-octet}
-use Rattle.bench.proofs.Texts.{length-shown, text-none, text-some}
+use Rattle.lines.proofs.Placed.{added-octet}
+use Rattle.demo.proofs.Texts.{length-shown, text-none, text-some}
 use borrow.Author.Needs.{needs}
-use Rattle.bench.proofs.columns.add_text.Statement.{statement}
-use Rattle.bench.proofs.columns.add_text.Tie as tie
+use Rattle.demo.proofs.columns.add_text.Statement.{statement}
+use Rattle.demo.proofs.columns.add_text.Tie as tie
 
-slice-aggregate-put-text : tie.Need-slice-aggregate-put-text
-slice-aggregate-put-text c = search needs
+slice-aggregate-add : tie.Need-slice-aggregate-add
+slice-aggregate-add c = search needs
 
-sub-put-text : tie.Need-sub-put-text
-sub-put-text c = search needs
-
-part-put-text-start : tie.Need-part-put-text-start
-part-put-text-start c = search needs
-
-part-put-text-end : tie.Need-part-put-text-end
-part-put-text-end c = search needs
-
-put-text-requires : tie.Need-put-text-requires
-put-text-requires c κs = search needs
+add-requires : tie.Need-add-requires
+add-requires c κs = search needs
 
 add-result : tie.Need-add-result
 add-result c = search needs
@@ -31,11 +22,7 @@ same-length : tie.Need-same-length
 same-length c = search needs
 
 returns : tie.Need-returns
-returns c =
-    let at-start = c .before .before .before .before .before .before .before .before in
-    let given = at-start .args in
-    let put = added-put (now (given .output)) (given .place) (c .before .before .put-text .ensures) (omega (arith, at-start .pre .1)) in
-    rw (sym (text-none (now (given .text)) (c .before .before .before .before .before .if1 .taken))) (record { end-is = refl; output-is = put .output-is })
+returns c = rw (sym (text-none (now (c .before .before .before .before .before .before .before .before .args .text)) (c .before .before .before .before .before .if1 .taken))) (c .before .before .add .ensures)
 
 add-shown-requires : tie.Need-add-shown-requires
 add-shown-requires c κs = search needs
@@ -67,11 +54,8 @@ pub add-text-spec : {M : Type 1} → statement M
 add-text-spec =
     tie.close
     (tie.spec
-    slice-aggregate-put-text
-    sub-put-text
-    part-put-text-start
-    part-put-text-end
-    put-text-requires
+    slice-aggregate-add
+    add-requires
     add-result
     same-length
     returns

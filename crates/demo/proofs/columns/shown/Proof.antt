@@ -1,8 +1,8 @@
--- `bench::columns::shown` meets its contract.
+-- `demo::columns::shown` meets its contract.
 -- Assumes nothing.
-use Rattle.bench.proofs.Texts.{shown-low, shown-high, shown-itself}
-use Rattle.bench.proofs.columns.shown.Statement.{statement}
-use Rattle.bench.proofs.columns.shown.Tie as tie
+use Rattle.demo.proofs.Texts.{shown-low, shown-high, shown-itself}
+use Rattle.demo.proofs.columns.shown.Statement.{statement}
+use Rattle.demo.proofs.columns.shown.Tie as tie
 
 returns : tie.Need-returns
 returns c = shown-low _ (c .if1 .taken)

@@ -1,9 +1,9 @@
--- `bench::empty_shelf` meets its contract.
+-- `demo::empty_shelf` meets its contract.
 -- Assumes nothing.
 use mathlib.Core.Path.{refl}
-use Rattle.bench.specs.Ends.{emptyShelf}
-use Rattle.bench.proofs.empty_shelf.Statement.{statement}
-use Rattle.bench.proofs.empty_shelf.Tie as tie
+use Rattle.demo.specs.Ends.{emptyShelf}
+use Rattle.demo.proofs.play.empty_shelf.Statement.{statement}
+use Rattle.demo.proofs.play.empty_shelf.Tie as tie
 
 returns : tie.Need-returns
 unfolding emptyShelf

@@ -1,13 +1,10 @@
--- `bench::hear` meets its contract: the tests of the room and of the octet pick the case.
+-- `demo::play::hear` meets its contract: a line feed has the line obeyed, and any other octet is kept.
 -- Assumes nothing.
-use Rattle.lines.proofs.Calls.{hear-no-room, hear-feed, hear-other}
-use Rattle.bench.specs.Bench.{answer, after, benchRules}
+use Rattle.lines.proofs.Calls.{hear-feed, hear-other}
+use Rattle.demo.specs.Play.{answer, after, demoRules}
 use borrow.Author.Needs.{needs}
-use Rattle.bench.proofs.hear.Statement.{statement}
-use Rattle.bench.proofs.hear.Tie as tie
-
-returns : tie.Need-returns
-returns c = hear-no-room benchRules _ _ (c .if1 .taken)
+use Rattle.demo.proofs.play.hear.Statement.{statement}
+use Rattle.demo.proofs.play.hear.Tie as tie
 
 obey-heard-requires : tie.Need-obey-heard-requires
 obey-heard-requires c κs = search needs
@@ -18,32 +15,23 @@ silence-requires c κs = search needs
 same-length : tie.Need-same-length
 same-length c = search needs
 
-returns-2 : tie.Need-returns-2
+returns : tie.Need-returns
 unfolding answer after
-returns-2 c =
+returns c =
     let at-obey = c .before .before .before .before in
-    let at-feed = at-obey .before .before in
-    hear-feed benchRules _ (at-feed .before .if1 .left) (at-feed .if2 .taken)
-    (λ i. record { state = at-obey .obey-heard .ensures .bench-is i; heard = c .before .silence .ensures i })
+    hear-feed demoRules _ (at-obey .before .before .before .before .pre) (at-obey .before .before .if1 .taken)
+    (λ i. record { state = at-obey .obey-heard .ensures .stage-is i; heard = c .before .silence .ensures i })
     (at-obey .obey-heard .ensures .said-is)
 
 kept-requires : tie.Need-kept-requires
 kept-requires c κs = search needs
 
-returns-3 : tie.Need-returns-3
-returns-3 c =
-    let at-other = c .before .before in
-    hear-other benchRules _ (at-other .before .if1 .left) (at-other .if2 .left)
-    (λ i. record { state = at-other .before .before .before .args .play .bench; heard = c .before .kept .ensures i })
+returns-2 : tie.Need-returns-2
+returns-2 c =
+    let at-start = c .before .before .before .before in
+    hear-other demoRules _ (at-start .pre) (c .before .before .if1 .left) (λ i. record { state = at-start .args .play .stage; heard = c .before .kept .ensures i })
 
 pub hear-spec : {M : Type 1} → statement M
 hear-spec =
     tie.close
-    (tie.spec
-    returns
-    obey-heard-requires
-    silence-requires
-    same-length
-    returns-2
-    kept-requires
-    returns-3)
+    (tie.spec obey-heard-requires silence-requires same-length returns kept-requires returns-2)

@@ -1,4 +1,4 @@
--- `bench::obey_heard` meets its contract: one line stands for every line that is too long.
+-- `demo::obey_heard` meets its contract: one line stands for every line that is too long.
 -- Assumes nothing.
 use lib.ListN.{length}
 use lib.Seq.{length-take-le}
@@ -6,8 +6,8 @@ use mathlib.Core.Path.{_≡_, sym, _∙_}
 use native.Mathlib.Omega.{arith}
 use Rattle.lines.proofs.Calls.{line-kept, line-too-long}
 use borrow.Author.Needs.{needs}
-use Rattle.bench.proofs.obey_heard.Statement.{statement}
-use Rattle.bench.proofs.obey_heard.Tie as tie
+use Rattle.demo.proofs.play.obey_heard.Statement.{statement}
+use Rattle.demo.proofs.play.obey_heard.Tie as tie
 
 -- the line so far has 48 places
 forty-eight : (c : tie.Else1) → length (c .before .before .before .before .args .play .heard .octets) ≡ 48

@@ -1,11 +1,11 @@
--- `bench::script::count_of` meets its contract: a number of at most three digits.
+-- `demo::script::count_of` meets its contract: a number of at most three digits.
 -- Assumes nothing.
 use denote.Ref.{now}
 use native.Mathlib.Omega.{arith}
-use Rattle.bench.proofs.Lines.{count-long, count-below, count-read}
+use Rattle.demo.proofs.Lines.{count-long, count-below, count-read}
 use borrow.Author.Needs.{needs}
-use Rattle.bench.proofs.script.count_of.Statement.{statement}
-use Rattle.bench.proofs.script.count_of.Tie as tie
+use Rattle.demo.proofs.script.count_of.Statement.{statement}
+use Rattle.demo.proofs.script.count_of.Tie as tie
 
 returns : tie.Need-returns
 returns c = (count-long _ (c .if1 .taken), omega arith)

@@ -1,20 +1,30 @@
--- `bench::script::noise_line` meets its contract: pairs of hex digits are octets.
+-- `demo::script::noise_line` meets its contract: pairs of hex digits are octets.
 -- Assumes nothing.
 use denote.Ref.{now}
 use lib.Seq.{length-take-le}
 use mathlib.Core.Path.{refl, sym}
-use Rattle.lines.proofs.Within.{put-within}
-use Rattle.bench.proofs.Lines.{noise-none, noise-some}
-use Rattle.bench.proofs.Steps.{stepped-as}
+use Rattle.lines.specs.Text.{hexOrder, hexOctets}
+use Rattle.lines.proofs.Callers.{put-within}
+use Rattle.demo.proofs.Lines.{noise-none, noise-some}
+use Rattle.demo.proofs.Steps.{stepped-as}
+use Prim.Native.Nat.{_≤_}
+use lib.ListN.{length}
 use borrow.Author.Needs.{needs}
-use Rattle.bench.proofs.script.noise_line.Statement.{statement}
-use Rattle.bench.proofs.script.noise_line.Tie as tie
+use Rattle.demo.proofs.script.noise_line.Statement.{statement}
+use Rattle.demo.proofs.script.noise_line.Tie as tie
+
+-- the octets are within the room that was lent
+within : (c : tie.After-octets-of-hex) → c .octets-of-hex .result .count ≤ length (c .octets-of-hex .last .1 .0)
+within c = put-within (hexOrder (now (c .before .before .before .before .args .rest)) _) (hexOctets (now (c .before .before .before .before .args .rest))) _ (c .octets-of-hex .ensures)
 
 slice-aggregate-octets-of-hex : tie.Need-slice-aggregate-octets-of-hex
 slice-aggregate-octets-of-hex c = search needs
 
 octets-of-hex-requires : tie.Need-octets-of-hex-requires
 octets-of-hex-requires c κs = search needs
+
+slice-aggregate-nothing : tie.Need-slice-aggregate-nothing
+slice-aggregate-nothing c = search needs
 
 nothing-requires : tie.Need-nothing-requires
 nothing-requires c κs = search needs
@@ -24,16 +34,16 @@ same-length c = search needs
 
 returns : tie.Need-returns
 returns c =
-    let at-octets = c .before .before .before .before .before .before .before in
+    let at-octets = c .before .before .before .before .before .before .before .before in
     let at-start = at-octets .before .before .before .before in
-    stepped-as (noise-none (at-start .args .bench) (now (at-start .args .rest)) (at-start .pre .0) refl (at-octets .octets-of-hex .ensures) (c .before .before .before .before .if1 .taken))
+    stepped-as (noise-none (at-start .args .stage) (now (at-start .args .rest)) (at-start .pre .0) _ refl (at-octets .octets-of-hex .ensures) (c .before .before .before .before .before .if1 .taken))
     (c .before .before .nothing .ensures)
 
 array-share-prefix-octets : tie.Need-array-share-prefix-octets
-array-share-prefix-octets c = put-within (c .before .before .before .octets-of-hex .ensures)
+array-share-prefix-octets c = within (c .before .before .before)
 
 slice-aggregate-noise : tie.Need-slice-aggregate-noise
-slice-aggregate-noise c = sym (length-take-le _ _ (put-within (c .before .before .before .before .octets-of-hex .ensures)))
+slice-aggregate-noise c = sym (length-take-le _ _ (within (c .before .before .before .before)))
 
 noise-requires : tie.Need-noise-requires
 noise-requires c κs = search needs
@@ -45,7 +55,7 @@ returns-2 : tie.Need-returns-2
 returns-2 c =
     let at-octets = c .before .before .before .before .before .before .before .before in
     let at-start = at-octets .before .before .before .before in
-    stepped-as (noise-some (at-start .args .bench) (now (at-start .args .rest)) (at-start .pre .0) refl (at-octets .octets-of-hex .ensures) (c .before .before .before .before .before .if1 .left))
+    stepped-as (noise-some (at-start .args .stage) (now (at-start .args .rest)) (at-start .pre .0) _ refl (at-octets .octets-of-hex .ensures) (c .before .before .before .before .before .if1 .left))
     (c .before .before .noise .ensures)
 
 pub noise-line-spec : {M : Type 1} → statement M
@@ -54,6 +64,7 @@ noise-line-spec =
     (tie.spec
     slice-aggregate-octets-of-hex
     octets-of-hex-requires
+    slice-aggregate-nothing
     nothing-requires
     same-length
     returns

@@ -1,14 +1,11 @@
--- `bench::columns::blank` meets its contract: eleven spaces are put from the place on.
+-- `demo::columns::add` meets its contract: the text is put to the front of what lies from the place on.
 -- Assumes nothing.
 use denote.Ref.{now}
-use Rattle.lines.proofs.Answered.{added-put}
 use mathlib.Core.Path.{refl}
+use Rattle.lines.proofs.Placed.{added-put}
 use borrow.Author.Needs.{needs}
-use Rattle.bench.proofs.columns.blank.Statement.{statement}
-use Rattle.bench.proofs.columns.blank.Tie as tie
-
-slice-aggregate-put-text : tie.Need-slice-aggregate-put-text
-slice-aggregate-put-text c = search needs
+use Rattle.demo.proofs.columns.add.Statement.{statement}
+use Rattle.demo.proofs.columns.add.Tie as tie
 
 sub-put-text : tie.Need-sub-put-text
 sub-put-text c = search needs
@@ -28,14 +25,13 @@ same-length c = search needs
 returns : tie.Need-returns
 returns c =
     let at-start = c .before .before .before .before .before .before in
-    let put = added-put (now (at-start .args .output)) (at-start .args .place) (c .before .before .put-text .ensures) (at-start .pre) in
-    record { end-is = refl; output-is = put .output-is }
+    let given = at-start .args in
+    record { end-is = refl; output-is = added-put (now (given .output)) (given .place) (now (given .text)) (c .before .before .put-text .ensures) (at-start .pre) .output-is }
 
-pub blank-spec : {M : Type 1} → statement M
-blank-spec =
+pub add-spec : {M : Type 1} → statement M
+add-spec =
     tie.close
     (tie.spec
-    slice-aggregate-put-text
     sub-put-text
     part-put-text-start
     part-put-text-end

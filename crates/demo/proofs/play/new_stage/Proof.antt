@@ -1,11 +1,11 @@
--- `bench::bench_start` meets its contract: both ends are opened, and the shelf is empty.
+-- `demo::play::new_stage` meets its contract: both ends are opened, and the shelf is empty.
 -- Assumes nothing.
-use Rattle.bench.specs.Ends.{benchKey}
-use Rattle.bench.specs.Bench.{benchStart}
-use Rattle.bench.proofs.Ends.{phone-start, cell-start}
+use Rattle.demo.specs.Ends.{exampleKey}
+use Rattle.demo.specs.Play.{newStage}
+use Rattle.demo.proofs.Ends.{phone-start, cell-start}
 use borrow.Author.Needs.{needs}
-use Rattle.bench.proofs.bench_start.Statement.{statement}
-use Rattle.bench.proofs.bench_start.Tie as tie
+use Rattle.demo.proofs.play.new_stage.Statement.{statement}
+use Rattle.demo.proofs.play.new_stage.Tie as tie
 
 slice-aggregate-open-sender : tie.Need-slice-aggregate-open-sender
 slice-aggregate-open-sender c = search needs
@@ -23,7 +23,7 @@ empty-shelf-requires : tie.Need-empty-shelf-requires
 empty-shelf-requires c κs = search needs
 
 returns : tie.Need-returns
-unfolding benchStart benchKey
+unfolding newStage exampleKey
 returns c =
     λ i. record {
       phone = phone-start (c .before .before .before .before .before .open-sender .ensures) i;
@@ -31,8 +31,8 @@ returns c =
       shelf = c .empty-shelf .ensures i;
     }
 
-pub bench-start-spec : {M : Type 1} → statement M
-bench-start-spec =
+pub new-stage-spec : {M : Type 1} → statement M
+new-stage-spec =
     tie.close
     (tie.spec
     slice-aggregate-open-sender
