@@ -1,14 +1,18 @@
-// Reads a script of one command a line, plays it on the bench, and writes what the phone, the box and the cell did, a line each.
-// It only moves octets: what a line asks for and what is answered is the crate `bench`.
+// Reads a script of one command a line, plays it, and writes what the phone, the box and the cell did, a line each.
+mod acts;
+mod columns;
+mod play;
+mod script;
+
 ghost use mathlib.Core.Bool.{true};
 ghost use mathlib.Core.Path.{_≡_};
 ghost use Prim.Native.Nat.{_≤_};
 ghost use lib.ListN.{length};
 ghost use Rattle.lines.specs.Hearing.{heardAfter};
-ghost use Rattle.bench.specs.Bench.{room, benchRules, standing};
-use bench::Play;
+ghost use Rattle.demo.specs.Play.{room, demoRules, standing};
 use libc::STDIN_FILENO;
 use libc::STDOUT_FILENO;
+use play::Play;
 
 // Where the play stands, and whether to go on. Where a write has failed nothing is left to answer.
 struct Moved {
@@ -19,15 +23,15 @@ struct Moved {
 // Hears a piece of the input, octet by octet, and writes each answer.
 fn hear_piece(play: Play, piece: &[u8], output: &mut [u8]) -> Moved
     requires { ⌜ room ≤ length (now output) ⌝ }
-    ensures { λ r. ⌜ (r .on ≡ true → standing (r .play) ≡ heardAfter benchRules (standing play) (now (piece .entry))) ⌝ }
+    ensures { λ r. ⌜ (r .on ≡ true → standing (r .play) ≡ heardAfter demoRules (standing play) (now (piece .entry))) ⌝ }
 {
     let mut so_far = play;
     let mut i = 0;
     while i < piece.len() {
-        let told = bench::hear(so_far, piece[i], output);
+        let told = play::hear(so_far, piece[i], output);
         let written = told.written;
         if !io::write_all(STDOUT_FILENO, &output[..written]) {
-            let nothing = bench::start();
+            let nothing = play::new_play();
             return Moved {
                 play: nothing,
                 on: false,
@@ -60,7 +64,7 @@ fn move_piece(play: Play, output: &mut [u8]) -> Moved
 fn move_all(output: &mut [u8]) -> Play
     requires { ⌜ room ≤ length (now output) ⌝ }
 {
-    let mut play = bench::start();
+    let mut play = play::new_play();
     let mut turns = u64::MAX;
     while turns > 0 {
         let moved = move_piece(play, output);
@@ -76,13 +80,11 @@ fn move_all(output: &mut [u8]) -> Play
 
 fn main() {
     let mut output = [0u8; 102];
-    let header = bench::header(&mut output);
-    let size = header.count;
+    let size = play::put_heading(&mut output);
     if !io::write_all(STDOUT_FILENO, &output[..size]) {
         return;
     }
     let play = move_all(&mut output);
-    let last = bench::finish(play, &mut output);
-    let written = last.count;
+    let written = play::finish(play, &mut output);
     io::write_all(STDOUT_FILENO, &output[..written]);
 }

@@ -12,22 +12,22 @@ use native.Mathlib.Omega.{arith}
 use Rattle.lines.specs.Hearing.{Standing, heardAfter}
 use Rattle.lines.proofs.Hearing.{heard-next, heard-all}
 use Rattle.lines.proofs.Run.{then-hearing}
-use Rattle.lines.proofs.Within.{put-within}
-use Rattle.bench.specs.declared.Bench.{Bench}
-use Rattle.bench.specs.Bench.{benchRules, standing}
+use Rattle.lines.proofs.Callers.{put-within}
+use Rattle.demo.specs.declared.play.Stage.{Stage}
+use Rattle.demo.specs.Play.{demoRules, standing}
 use Rattle.demo.proofs.hear_piece.Statement.{statement}
 use Rattle.demo.proofs.hear_piece.Tie as tie
 
 abbrev Inv-loop : tie.InvT-loop
 Inv-loop piece output₀ so-far₀ i₀ output so-far i =
-    (i ≤ length piece) × (heardAfter benchRules (standing so-far₀) piece ≡ heardAfter benchRules (standing so-far) (drop i piece)) × (length output ≡ length output₀)
+    (i ≤ length piece) × (heardAfter demoRules (standing so-far₀) piece ≡ heardAfter demoRules (standing so-far) (drop i piece)) × (length output ≡ length output₀)
 
 abbrev μ-loop : tie.MeasureT-loop
 μ-loop piece output₀ so-far₀ i₀ output so-far i = length piece - i
 
 -- what is written is within the output
 within : (c : tie.After-hear Inv-loop μ-loop) → c .hear .result .written ≤ length (c .hear .last .1 .1 .0)
-within c = put-within (c .hear .ensures .said-is)
+within c = put-within _ _ _ (c .hear .ensures .said-is)
 
 -- which keeps its length
 length-kept : (c : tie.After-hear Inv-loop μ-loop) → length (c .hear .last .1 .1 .0) ≡ length (now (c .before .before .before .before .before .before .before .args .output))
@@ -51,8 +51,8 @@ slice-aggregate-write-all c = sym (length-take-le (c .before .before .before .he
 write-all-requires : tie.Need-write-all-requires Inv-loop μ-loop
 write-all-requires c κs = search needs
 
-start-requires : tie.Need-start-requires Inv-loop μ-loop
-start-requires c κs = search needs
+new-play-requires : tie.Need-new-play-requires Inv-loop μ-loop
+new-play-requires c κs = search needs
 
 same-length : tie.Need-same-length Inv-loop μ-loop
 same-length c = length-kept (c .before .before .before .before .before .before)
@@ -75,8 +75,8 @@ loop-again c =
     let i : ℕ = at-loop .loop .i in (
       omega arith,
       at-loop .loop .inv .1
-          ∙ heard-next benchRules (standing (at-loop .loop .so-far)) piece i (omega arith)
-          ∙ ap (λ (s : Standing Bench). heardAfter benchRules s (drop (i + 1) piece)) (sym (then-hearing benchRules (omega (arith, at-loop .loop .inv .2, at-loop .before .before .before .pre)) (at-hear .hear .ensures))),
+          ∙ heard-next demoRules (standing (at-loop .loop .so-far)) piece i (omega arith)
+          ∙ ap (λ (s : Standing Stage). heardAfter demoRules s (drop (i + 1) piece)) (sym (then-hearing demoRules (omega (arith, at-loop .loop .inv .2, at-loop .before .before .before .pre)) (at-hear .hear .ensures))),
       length-kept at-hear,
     )
 
@@ -87,7 +87,7 @@ returns-2 : tie.Need-returns-2 Inv-loop μ-loop
 returns-2 c _ =
     let at-loop = c .before in
     let given = at-loop .before .before .before .args in
-    sym (at-loop .loop .inv .1 ∙ heard-all benchRules (standing (at-loop .loop .so-far)) (now (given .piece)) (at-loop .loop .i) (omega arith))
+    sym (at-loop .loop .inv .1 ∙ heard-all demoRules (standing (at-loop .loop .so-far)) (now (given .piece)) (at-loop .loop .i) (omega arith))
 
 pub hear-piece-spec : {M : Type 1} → statement M
 hear-piece-spec =
@@ -101,7 +101,7 @@ hear-piece-spec =
     slice-reshare-prefix-write-all
     slice-aggregate-write-all
     write-all-requires
-    start-requires
+    new-play-requires
     same-length
     returns
     add-i

@@ -17,8 +17,8 @@ abbrev μ-loop : tie.MeasureT-loop
 length-kept : (c : tie.After-move-piece Inv-loop μ-loop) → length (c .move-piece .last .1 .0) ≡ length (now (c .before .before .before .before .before .before .args .output))
 length-kept c = c .move-piece .kept .1 .0 ∙ c .before .before .before .loop .inv
 
-start-requires : tie.Need-start-requires Inv-loop μ-loop
-start-requires c κs = search needs
+new-play-requires : tie.Need-new-play-requires Inv-loop μ-loop
+new-play-requires c κs = search needs
 
 loop-holds : tie.Need-loop-holds Inv-loop μ-loop
 loop-holds c = refl
@@ -53,7 +53,7 @@ move-all-spec =
     (tie.spec
     Inv-loop
     μ-loop
-    start-requires
+    new-play-requires
     loop-holds
     move-piece-requires
     same-length

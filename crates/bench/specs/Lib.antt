@@ -1,4 +1,0 @@
-pub mod Bench
-pub mod Columns
-pub mod Ends
-pub mod Script

@@ -1,0 +1,112 @@
+-- `demo::acts::keep` meets its contract: the frame is put to its place of the shelf.
+-- Assumes nothing.
+use denote.Ref.{now}
+use lib.ListN.{length, take}
+use lib.Seq.{length-take-le}
+use mathlib.Core.Path.{_≡_, sym}
+use native.Mathlib.Omega.{arith}
+use Prim.Native.Nat.{_≤_}
+use Rattle.refusals.proofs.Calls.{is-outcome}
+use Rattle.sender.specs.Sender.{sealCall}
+use Rattle.demo.specs.Ends.{frameRoom}
+use Rattle.demo.proofs.Ends.{sealed-fits}
+use Rattle.demo.proofs.Steps.{line-put, kept}
+use borrow.Author.Needs.{needs}
+use Rattle.demo.proofs.acts.keep.Statement.{statement}
+use Rattle.demo.proofs.acts.keep.Tie as tie
+
+-- the frame is within the room that was lent
+fits : (c : tie.After-seal) → c .seal .result .size ≤ 46
+unfolding frameRoom
+fits c = sealed-fits (c .before .before .before .before .args .stage .phone) (now (c .before .before .before .before .args .text)) (c .seal .ensures)
+
+within : (c : tie.After-seal) → c .seal .result .size ≤ length (c .seal .last .1 .1 .0)
+within c = omega (arith, fits c, c .seal .kept .1 .1 .0)
+
+long : (c : tie.After-seal) → c .seal .result .size ≡ length (take (c .seal .result .size) (c .seal .last .1 .1 .0))
+long c = sym (length-take-le (c .seal .result .size) (c .seal .last .1 .1 .0) (within c))
+
+-- the shelf has ten places of 46 octets
+places : (c : tie.Start) → length (c .args .stage .shelf .frames) ≡ 460
+places c = search needs
+
+slice-aggregate-seal : tie.Need-slice-aggregate-seal
+slice-aggregate-seal c = search needs
+
+seal-requires : tie.Need-seal-requires
+seal-requires c κs = search needs
+
+array-share-prefix-frame : tie.Need-array-share-prefix-frame
+array-share-prefix-frame c = within (c .before .before .before .before)
+
+slice-aggregate-add : tie.Need-slice-aggregate-add
+slice-aggregate-add c = long (c .before .before .before .before .before)
+
+slice-aggregate-add-2 : tie.Need-slice-aggregate-add-2
+slice-aggregate-add-2 c = sym (places (c .before .before .before .before .before .before .before .before .before .before))
+
+mul-add : tie.Need-mul-add
+mul-add c = search needs
+
+add-requires : tie.Need-add-requires
+add-requires c κs =
+    let at-seal = c .before .before .before .before .before .before in
+    let at-start = at-seal .before .before .before .before in
+    omega (arith, places at-start, long at-seal, fits at-seal, at-start .pre .0)
+
+cast-sizes : tie.Need-cast-sizes
+cast-sizes c = omega (arith, fits (c .before .before .before .before .before .before .before .before))
+
+array-write-sizes : tie.Need-array-write-sizes
+array-write-sizes c = search needs
+
+add-sealed-requires : tie.Need-add-sealed-requires
+add-sealed-requires c κs = search needs
+
+slice-aggregate-add-counted : tie.Need-slice-aggregate-add-counted
+slice-aggregate-add-counted c = search needs
+
+cast-add-counted : tie.Need-cast-add-counted
+cast-add-counted c = search needs
+
+add-counted-requires : tie.Need-add-counted-requires
+add-counted-requires c κs = search needs
+
+add-silence-requires : tie.Need-add-silence-requires
+add-silence-requires c κs = search needs
+
+same-length : tie.Need-same-length
+same-length c = search needs
+
+returns : tie.Need-returns
+unfolding frameRoom
+returns c =
+    let at-counted = c .before .before .before .before .before .before .before .before .before in
+    let at-sealed = at-counted .before .before .before .before .before in
+    let at-add = at-sealed .before .before .before in
+    let at-seal = at-add .before .before .before .before .before .before .before in
+    let at-start = at-seal .before .before .before .before in
+    let given = at-start .args in
+    kept (given .stage) (given .k) (now (given .text)) (is-outcome (sealCall (given .stage .phone) (now (given .text)) frameRoom) (at-seal .seal .ensures)) (at-add .add .ensures) (long at-seal)
+    (line-put (omega (arith, at-start .pre .1)) (at-sealed .add-sealed .ensures) (at-counted .add-counted .ensures) (c .before .before .add-silence .ensures))
+
+pub keep-spec : {M : Type 1} → statement M
+keep-spec =
+    tie.close
+    (tie.spec
+    slice-aggregate-seal
+    seal-requires
+    array-share-prefix-frame
+    slice-aggregate-add
+    slice-aggregate-add-2
+    mul-add
+    add-requires
+    cast-sizes
+    array-write-sizes
+    add-sealed-requires
+    slice-aggregate-add-counted
+    cast-add-counted
+    add-counted-requires
+    add-silence-requires
+    same-length
+    returns)

@@ -1,0 +1,64 @@
+-- `demo::obey_heard` meets its contract: one line stands for every line that is too long.
+-- Assumes nothing.
+use lib.ListN.{length}
+use lib.Seq.{length-take-le}
+use mathlib.Core.Path.{_≡_, sym, _∙_}
+use native.Mathlib.Omega.{arith}
+use Rattle.lines.proofs.Calls.{line-kept, line-too-long}
+use borrow.Author.Needs.{needs}
+use Rattle.demo.proofs.play.obey_heard.Statement.{statement}
+use Rattle.demo.proofs.play.obey_heard.Tie as tie
+
+-- the line so far has 48 places
+forty-eight : (c : tie.Else1) → length (c .before .before .before .before .args .play .heard .octets) ≡ 48
+forty-eight c = search needs
+
+too-long-requires : tie.Need-too-long-requires
+too-long-requires c κs = search needs
+
+slice-aggregate-obey : tie.Need-slice-aggregate-obey
+slice-aggregate-obey c = search needs
+
+obey-requires : tie.Need-obey-requires
+obey-requires c κs = search needs
+
+same-length : tie.Need-same-length
+same-length c = search needs
+
+returns : tie.Need-returns
+returns c =
+    let at-line = c .before .before .before .before .before in
+    let at-long = at-line .before in
+    rw (line-too-long (at-long .before .before .before .before .args .play .heard) (at-long .if1 .taken) ∙ sym (at-line .too-long .ensures)) (c .before .before .obey .ensures)
+
+array-share-prefix-octets : tie.Need-array-share-prefix-octets
+array-share-prefix-octets c = omega (arith, forty-eight c)
+
+slice-aggregate-obey-2 : tie.Need-slice-aggregate-obey-2
+slice-aggregate-obey-2 c = sym (length-take-le _ _ (omega (arith, forty-eight (c .before))))
+
+obey-requires-2 : tie.Need-obey-requires-2
+obey-requires-2 c κs = search needs
+
+same-length-2 : tie.Need-same-length-2
+same-length-2 c = search needs
+
+returns-2 : tie.Need-returns-2
+returns-2 c =
+    let at-kept = c .before .before .before .before .before in
+    rw (line-kept (at-kept .before .before .before .before .args .play .heard) (at-kept .if1 .left)) (c .before .before .obey2 .ensures)
+
+pub obey-heard-spec : {M : Type 1} → statement M
+obey-heard-spec =
+    tie.close
+    (tie.spec
+    too-long-requires
+    slice-aggregate-obey
+    obey-requires
+    same-length
+    returns
+    array-share-prefix-octets
+    slice-aggregate-obey-2
+    obey-requires-2
+    same-length-2
+    returns-2)

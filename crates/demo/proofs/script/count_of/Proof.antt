@@ -1,0 +1,30 @@
+-- `demo::script::count_of` meets its contract: a number of at most three digits.
+-- Assumes nothing.
+use denote.Ref.{now}
+use native.Mathlib.Omega.{arith}
+use Rattle.demo.proofs.Lines.{count-long, count-below, count-read}
+use borrow.Author.Needs.{needs}
+use Rattle.demo.proofs.script.count_of.Statement.{statement}
+use Rattle.demo.proofs.script.count_of.Tie as tie
+
+returns : tie.Need-returns
+returns c = (count-long _ (c .if1 .taken), omega arith)
+
+decimal-requires : tie.Need-decimal-requires
+decimal-requires c κs = search needs
+
+cast-result : tie.Need-cast-result
+cast-result c =
+    let at-start = c .before .before .before .before in
+    let text = now (at-start .args .text) in
+    omega (arith, count-read text (c .before .before .if1 .left) (c .before .decimal .ensures), count-below text)
+
+returns-2 : tie.Need-returns-2
+returns-2 c =
+    let at-start = c .before .before .before .before in
+    let text = now (at-start .args .text) in
+    let read = count-read text (c .before .before .if1 .left) (c .before .decimal .ensures) in
+    (read, omega (arith, count-below text))
+
+pub count-of-spec : {M : Type 1} → statement M
+count-of-spec = tie.close (tie.spec returns decimal-requires cast-result returns-2)

@@ -1,0 +1,52 @@
+-- The columns of an answer. Assumes nothing.
+use Prim.Native.Nat.{ℕ}
+use mathlib.Core.Bool.{Bool, true, cond, _&&_}
+use mathlib.Core.List.{List, [], _∷_, _++_}
+use lib.Dec.{eqb}
+use lib.ListN.{length, drop, replicate}
+use Rattle.lines.specs.Digits.{within}
+use Rattle.lines.specs.Text.{decimalText}
+use Rattle.demo.specs.Words.{quoted, refusalText}
+
+-- a text at the left of a column, which is eleven octets wide and filled up with spaces (32): ten digits and a space have room
+unfoldable pub column : List ℕ → List ℕ
+column text = text ++ drop (length text) (replicate 11 32)
+
+-- what the phone's column shows: the number of the frame that it sealed, or why it sealed none
+unfoldable pub phoneText : ℕ → ℕ → List ℕ
+phoneText refusal number = cond (eqb refusal 0) (decimalText number) (refusalText refusal)
+
+-- what the cell's number column shows: the number where one is given
+unfoldable pub numberText : Bool → ℕ → List ℕ
+numberText given number = cond given (decimalText number) (quoted "-")
+
+-- what the cell's answer column shows
+unfoldable pub answerText : ℕ → List ℕ
+answerText refusal = cond (eqb refusal 0) (quoted "ok") (refusalText refusal)
+
+-- an octet as it is shown: printable ASCII as itself, any other as a full stop (46)
+unfoldable pub shown : ℕ → ℕ
+shown octet = cond (within 32 126 octet) octet 46
+
+-- a text as it is shown
+unfoldable pub shownText : List ℕ → List ℕ
+shownText [] = []
+shownText (octet ∷ rest) = shown octet ∷ shownText rest
+
+-- the last column, and the line feed: the text handed out, or a hyphen where none is
+unfoldable pub textColumn : List ℕ → List ℕ
+textColumn text = cond (eqb (length text) 0) (quoted "-") (shownText text) ++ quoted "\n"
+
+-- the columns of the cell where it is handed octets: the number, the answer, the next number, the text handed out
+unfoldable pub cellColumns : Bool → ℕ → ℕ → ℕ → List ℕ → List ℕ
+cellColumns given refusal number next text =
+    column (numberText given number) ++ (column (answerText refusal) ++ (column (decimalText next) ++ textColumn text))
+
+-- and where it is handed nothing: only its next number is shown
+unfoldable pub silentColumns : ℕ → List ℕ
+silentColumns next = column (quoted "-") ++ (column (quoted "-") ++ (column (decimalText next) ++ quoted "-\n"))
+
+-- each octet of a text is printable ASCII
+unfoldable pub allPrintable : List ℕ → Bool
+allPrintable [] = true
+allPrintable (octet ∷ rest) = within 32 126 octet && allPrintable rest

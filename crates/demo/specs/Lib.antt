@@ -1,0 +1,5 @@
+pub mod Columns
+pub mod Ends
+pub mod Play
+pub mod Script
+pub mod Words

@@ -1,0 +1,216 @@
+// What is done for a line of the script: the phone seals, the box passes, loses, keeps or gives, and the cell opens.
+ghost use mathlib.Core.Path.{_≡_};
+ghost use Prim.Native.Nat.{_*_, _≤_, _<_, min};
+ghost use lib.ListN.{length, drop, take};
+ghost use Rattle.demo.specs.Words.{quoted};
+ghost use Rattle.demo.specs.Ends.{phoneAnswer, phoneAfter};
+ghost use Rattle.demo.specs.Play.{room};
+ghost use Rattle.demo.specs.Script.{passing, losing, keeping, giving, noising, nothing as Script·nothing, remarking, HandCall, StepCall};
+use crate::columns;
+use crate::play::Shelf;
+use crate::play::Stage;
+use receiver::Receiver;
+use sender::Sender;
+
+// The stage after a line, and how many octets its answer has.
+pub(crate) struct Stepped {
+    pub stage: Stage,
+    pub written: usize,
+}
+
+// The cell after what it was handed, and where the line that shows its answer ends.
+pub(crate) struct Handed {
+    pub cell: Receiver,
+    pub end: usize,
+}
+
+// ---- the phone, the box and the cell
+
+// The phone after sealing a frame that is lost.
+fn lose_one(phone: Sender) -> Sender
+    ensures { λ r. ⌜ r ≡ phoneAnswer phone (quoted "lost") .lent .sender ⌝ }
+{
+    let mut frame = [0u8; 46];
+    sender::seal(phone, b"lost", &mut frame).sender
+}
+
+// The phone after sealing so many of them.
+fn lose_times(phone: Sender, times: u32) -> Sender
+    ensures { λ r. ⌜ r ≡ phoneAfter times phone ⌝ }
+{
+    let mut so_far = phone;
+    let mut i = 0;
+    while i < times {
+        so_far = lose_one(so_far);
+        i += 1;
+    }
+    so_far
+}
+
+// The frame at a place of the shelf.
+fn frame_at(frames: &[u8], k: usize, size: u8) -> &[u8]
+    requires { ⌜ (k < 10) × (length (now frames) ≡ 460) ⌝ }
+    ensures { λ r. ⌜ now r ≡ take (min size 46) (drop (46 * k) (now (frames .entry))) ⌝ }
+{
+    let from = 46 * k;
+    if 46 < size {
+        let most = from + 46;
+        return &frames[from..most];
+    }
+    let end = from + size as usize;
+    &frames[from..end]
+}
+
+// Hands octets to the cell, and shows its answer. The number is given with 0 and with two refusals.
+fn hand(cell: Receiver, octets: &[u8], output: &mut [u8]) -> Handed
+    requires { ⌜ room ≤ length (now output) ⌝ }
+    ensures { λ r. ⌜ HandCall cell (now (octets .entry)) (now (output .entry)) r (now (output .exit)) ⌝ }
+{
+    let mut text = [0u8; 46];
+    let opened = receiver::open(cell, octets, &mut text);
+    let refusal = opened.refusal;
+    let size = opened.size;
+    let after = opened.receiver;
+    let numbering = after.numbering;
+    let end = columns::add_cell(
+        (refusal == 0) | ((refusal == refusals::REPEAT) | (refusal == refusals::ROOM)),
+        refusal,
+        opened.number,
+        numbering.next,
+        &text[..size],
+        output,
+    );
+    Handed { cell: after, end }
+}
+
+// ---- what is done for a line
+
+// The phone seals a text, and the box hands the frame to the cell.
+pub(crate) fn pass(stage: Stage, text: &[u8], output: &mut [u8]) -> Stepped
+    requires { ⌜ room ≤ length (now output) ⌝ }
+    ensures { λ r. ⌜ StepCall (passing stage (now (text .entry))) (now (output .entry)) r (now (output .exit)) ⌝ }
+{
+    let mut frame = [0u8; 46];
+    let sealed = sender::seal(stage.phone, text, &mut frame);
+    columns::add_sealed(sealed.refusal, sealed.number, output);
+    columns::add_column(b"passed", output, columns::WIDTH);
+    let size = sealed.size;
+    let handed = hand(stage.cell, &frame[..size], output);
+    let phone = sealed.sender;
+    let cell = handed.cell;
+    let shelf = stage.shelf;
+    Stepped {
+        stage: Stage { phone, cell, shelf },
+        written: handed.end,
+    }
+}
+
+// The phone seals so many frames, and the box loses them all.
+pub(crate) fn lose(stage: Stage, count: u32, output: &mut [u8]) -> Stepped
+    requires { ⌜ (0 < count) × ((count < 1000) × (room ≤ length (now output))) ⌝ }
+    ensures { λ r. ⌜ StepCall (losing stage count) (now (output .entry)) r (now (output .exit)) ⌝ }
+{
+    let before = lose_times(stage.phone, count - 1);
+    let mut frame = [0u8; 46];
+    let sealed = sender::seal(before, b"lost", &mut frame);
+    columns::add_sealed(sealed.refusal, sealed.number, output);
+    columns::add_counted(b"lost ", count, output, columns::WIDTH);
+    let phone = sealed.sender;
+    let cell = stage.cell;
+    let shelf = stage.shelf;
+    let numbering = cell.numbering;
+    let written = columns::add_silence(numbering.next, output);
+    Stepped {
+        stage: Stage { phone, cell, shelf },
+        written,
+    }
+}
+
+// The phone seals a text, and the box keeps the frame at place k.
+pub(crate) fn keep(stage: Stage, k: usize, text: &[u8], output: &mut [u8]) -> Stepped
+    requires { ⌜ (k < 10) × (room ≤ length (now output)) ⌝ }
+    ensures { λ r. ⌜ StepCall (keeping stage k (now (text .entry))) (now (output .entry)) r (now (output .exit)) ⌝ }
+{
+    let mut frame = [0u8; 46];
+    let sealed = sender::seal(stage.phone, text, &mut frame);
+    let size = sealed.size;
+    let old = stage.shelf;
+    let mut frames = old.frames;
+    let mut sizes = old.sizes;
+    columns::add(&frame[..size], &mut frames, 46 * k);
+    sizes[k] = size as u8;
+    columns::add_sealed(sealed.refusal, sealed.number, output);
+    columns::add_counted(b"kept ", k as u32, output, columns::WIDTH);
+    let phone = sealed.sender;
+    let cell = stage.cell;
+    let shelf = Shelf { frames, sizes };
+    let numbering = cell.numbering;
+    let written = columns::add_silence(numbering.next, output);
+    Stepped {
+        stage: Stage { phone, cell, shelf },
+        written,
+    }
+}
+
+// The box hands the frame kept at place k to the cell, and still keeps it.
+pub(crate) fn give(stage: Stage, k: usize, output: &mut [u8]) -> Stepped
+    requires { ⌜ (k < 10) × (room ≤ length (now output)) ⌝ }
+    ensures { λ r. ⌜ StepCall (giving stage k) (now (output .entry)) r (now (output .exit)) ⌝ }
+{
+    let shelf = stage.shelf;
+    let frames = shelf.frames;
+    let sizes = shelf.sizes;
+    let size = sizes[k];
+    columns::add_column(b"-", output, 0);
+    columns::add_counted(b"gave ", k as u32, output, columns::WIDTH);
+    let handed = hand(stage.cell, frame_at(&frames, k, size), output);
+    let phone = stage.phone;
+    let cell = handed.cell;
+    Stepped {
+        stage: Stage { phone, cell, shelf },
+        written: handed.end,
+    }
+}
+
+// The box hands octets of its own to the cell.
+pub(crate) fn noise(stage: Stage, octets: &[u8], output: &mut [u8]) -> Stepped
+    requires { ⌜ room ≤ length (now output) ⌝ }
+    ensures { λ r. ⌜ StepCall (noising stage (now (octets .entry))) (now (output .entry)) r (now (output .exit)) ⌝ }
+{
+    columns::add_column(b"-", output, 0);
+    columns::add_column(b"handed", output, columns::WIDTH);
+    let handed = hand(stage.cell, octets, output);
+    let phone = stage.phone;
+    let cell = handed.cell;
+    let shelf = stage.shelf;
+    Stepped {
+        stage: Stage { phone, cell, shelf },
+        written: handed.end,
+    }
+}
+
+// Nothing is done for a bad line.
+pub(crate) fn nothing(stage: Stage, why: &[u8], output: &mut [u8]) -> Stepped
+    requires { ⌜ (length (now why) ≤ 11) × (room ≤ length (now output)) ⌝ }
+    ensures { λ r. ⌜ StepCall (Script·nothing stage (now (why .entry))) (now (output .entry)) r (now (output .exit)) ⌝ }
+{
+    columns::add_column(b"?", output, 0);
+    columns::add_column(why, output, columns::WIDTH);
+    let cell = stage.cell;
+    let numbering = cell.numbering;
+    let written = columns::add_silence(numbering.next, output);
+    Stepped { stage, written }
+}
+
+// A remark is answered by itself.
+pub(crate) fn remark(stage: Stage, line: &[u8], output: &mut [u8]) -> Stepped
+    requires { ⌜ (length (now line) ≤ 48) × (room ≤ length (now output)) ⌝ }
+    ensures { λ r. ⌜ StepCall (remarking stage (now (line .entry))) (now (output .entry)) r (now (output .exit)) ⌝ }
+{
+    let end = lines::put_text(line, output).count;
+    output[end] = b'\n';
+    Stepped {
+        stage,
+        written: end + 1,
+    }
+}

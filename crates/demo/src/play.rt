@@ -1,0 +1,140 @@
+// The play: a phone end that seals numbered lines, a box that loses, repeats and reorders them, and a cell end that opens them, heard octet by octet.
+// How lines are heard is the crate `lines`, and what the two ends do the crates `sender` and `receiver`.
+ghost use mathlib.Core.Path.{_≡_};
+ghost use Prim.Native.Nat.{_≤_};
+ghost use lib.ListN.{length};
+ghost use Rattle.lines.specs.Text.{AtFront};
+ghost use Rattle.lines.specs.Hearing.{heardLine, HearCall, FinishCall};
+ghost use Rattle.demo.specs.Ends.{emptyShelf};
+ghost use Rattle.demo.specs.Script.{obeyed, StepCall};
+ghost use Rattle.demo.specs.Play.{room, heading as Play·heading, demoRules, standing, newStage, newPlay};
+use crate::acts::Stepped;
+use crate::script;
+use lines::Heard;
+use receiver::Receiver;
+use sender::Sender;
+
+// What ends a line.
+const LINE_FEED: u8 = b'\n';
+
+// The link's offset, service number and direction.
+const IOV: u32 = 0x0123_4567;
+
+const SAPI: u8 = 3;
+
+const DIRECTION: u8 = 0;
+
+// The box's shelf: ten places of 46 octets, and how many of them the frame kept there has, 0 where none is.
+pub(crate) struct Shelf {
+    pub frames: [u8; 460],
+    pub sizes: [u8; 10],
+}
+
+// The phone's end, the cell's end, and the shelf of the box between them.
+pub(crate) struct Stage {
+    pub phone: Sender,
+    pub cell: Receiver,
+    pub shelf: Shelf,
+}
+
+// The state between two octets: the line so far, and the stage.
+pub(crate) struct Play {
+    pub heard: Heard,
+    pub stage: Stage,
+}
+
+// The state after an octet, and how many octets its answer has at the front of the output.
+pub(crate) struct Told {
+    pub play: Play,
+    pub written: usize,
+}
+
+// Nothing on the shelf.
+fn empty_shelf() -> Shelf
+    ensures { λ r. ⌜ r ≡ emptyShelf ⌝ }
+{
+    Shelf {
+        frames: [0u8; 460],
+        sizes: [0u8; 10],
+    }
+}
+
+// Both ends newly opened on one link, whose key is an example that everybody may know.
+fn new_stage() -> Stage
+    ensures { λ r. ⌜ r ≡ newStage ⌝ }
+{
+    let key = [0u8, 1, 2, 3, 4, 5, 6, 7, 8, 9, 10, 11, 12, 13, 14, 15];
+    let phone = sender::open_sender(&key, IOV, SAPI, DIRECTION).sender;
+    let cell = receiver::open_receiver(&key, IOV, SAPI, DIRECTION).receiver;
+    let shelf = empty_shelf();
+    Stage { phone, cell, shelf }
+}
+
+// The start: nothing heard, nothing sealed and nothing accepted.
+pub(crate) fn new_play() -> Play
+    ensures { λ r. ⌜ r ≡ newPlay ⌝ }
+{
+    let heard = lines::silence();
+    let stage = new_stage();
+    Play { heard, stage }
+}
+
+// Puts the heading at the front of the output, and answers how many octets it has.
+pub(crate) fn put_heading(output: &mut [u8]) -> usize
+    requires { ⌜ room ≤ length (now output) ⌝ }
+    ensures { λ r. ⌜ AtFront Play·heading (now (output .entry)) r (now (output .exit)) ⌝ }
+{
+    lines::put_text(
+        b"phone      box        number     answer     next       text\n",
+        output,
+    ).count
+}
+
+// Does what the line heard asks for.
+fn obey_heard(play: Play, output: &mut [u8]) -> Stepped
+    requires { ⌜ room ≤ length (now output) ⌝ }
+    ensures { λ r. ⌜ StepCall (obeyed (play .stage) (heardLine (play .heard))) (now (output .entry)) r (now (output .exit)) ⌝ }
+{
+    let heard = play.heard;
+    let octets = heard.octets;
+    let count = heard.count;
+    if lines::LONGEST < count {
+        let line = lines::too_long();
+        return script::obey(play.stage, &line, output);
+    }
+    script::obey(play.stage, &octets[..count], output)
+}
+
+// Hears one octet: a line feed has the line obeyed and begins a new one, any other octet is kept.
+pub(crate) fn hear(play: Play, octet: u8, output: &mut [u8]) -> Told
+    requires { ⌜ room ≤ length (now output) ⌝ }
+    ensures { λ r. ⌜ HearCall demoRules (standing play) octet (now (output .entry)) 0 (standing (r .play)) (r .written) (now (output .exit)) ⌝ }
+{
+    if octet == LINE_FEED {
+        let stepped = obey_heard(play, output);
+        let heard = lines::silence();
+        let stage = stepped.stage;
+        return Told {
+            play: Play { heard, stage },
+            written: stepped.written,
+        };
+    }
+    let heard = lines::kept(play.heard, octet);
+    let stage = play.stage;
+    Told {
+        play: Play { heard, stage },
+        written: 0,
+    }
+}
+
+// The input ends: obeys a last line that has no line end, puts its answer, and answers how many octets that has.
+pub(crate) fn finish(play: Play, output: &mut [u8]) -> usize
+    requires { ⌜ room ≤ length (now output) ⌝ }
+    ensures { λ r. ⌜ FinishCall demoRules (standing play) (now (output .entry)) 0 r (now (output .exit)) ⌝ }
+{
+    let heard = play.heard;
+    if heard.count == 0 {
+        return 0;
+    }
+    obey_heard(play, output).written
+}
