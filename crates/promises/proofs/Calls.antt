@@ -16,6 +16,8 @@ use Rattle.frames.specs.Frame.{lookOrder, headerOrder}
 use Rattle.link.specs.Link.{linkOrder, cipherOrder}
 use Rattle.sender.specs.Sender.{sealOrder}
 use Rattle.receiver.specs.Receiver.{openOrder}
+use Rattle.lines.specs.Digits.{digitsOrder}
+use Rattle.lines.specs.Text.{roomOrder, hexOrder}
 use Rattle.promises.specs.Calls.{publicCalls}
 
 infixr 5 _⊗_
@@ -43,9 +45,9 @@ abbrev IsOrder : (Lent : Type 0) → Call Lent → Type 0
 IsOrder Lent call = T (isOrder (call .order))
 
 orders : All (Always IsOrder) publicCalls
-unfolding cutOrder xorOrder kasumiOrder kgcoreOrder keyOrder a5Order gea4Order candidateOrder numberOrder lookOrder headerOrder linkOrder cipherOrder sealOrder openOrder
+unfolding cutOrder xorOrder kasumiOrder kgcoreOrder keyOrder a5Order gea4Order candidateOrder numberOrder lookOrder headerOrder linkOrder cipherOrder sealOrder openOrder digitsOrder roomOrder hexOrder
 orders =
-    tt ⊗ tt ⊗ tt ⊗ in4 ⊗ in3 ⊗ in2 ⊗ in4 ⊗ in1 ⊗ in3 ⊗ in3 ⊗ in5 ⊗ tt ⊗ tt ⊗ in2 ⊗ tt ⊗ in1 ⊗ tt ⊗ in3 ⊗ tt ⊗ in4 ⊗ in4 ⊗ in4 ⊗ in3 ⊗ in4 ⊗ in3 ⊗ tt
+    tt ⊗ tt ⊗ tt ⊗ in4 ⊗ in3 ⊗ in2 ⊗ in4 ⊗ in1 ⊗ in3 ⊗ in3 ⊗ in5 ⊗ tt ⊗ tt ⊗ in2 ⊗ tt ⊗ in1 ⊗ tt ⊗ in3 ⊗ tt ⊗ in4 ⊗ in4 ⊗ in4 ⊗ in3 ⊗ in4 ⊗ in3 ⊗ in1 ⊗ in1 ⊗ in2 ⊗ in2 ⊗ in2 ⊗ in2 ⊗ tt ⊗ tt ⊗ tt ⊗ tt
 
 pub all-answer : All (Always (λ Lent call. Answers call)) publicCalls
 all-answer = of-all (λ Lent call order. answers call order) publicCalls orders

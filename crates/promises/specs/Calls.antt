@@ -15,6 +15,9 @@ use Rattle.frames.specs.Frame.{looked, lookRefusalCall, headerOf, putHeaderCall
 use Rattle.link.specs.Link.{linkCanArise, openLinkCall, cipherCall}
 use Rattle.sender.specs.Sender.{openSenderCall, sealCall}
 use Rattle.receiver.specs.Receiver.{openReceiverCall, openCall}
+use Rattle.lines.specs.Digits.{decimalCall, hexadecimalCall}
+use Rattle.lines.specs.Text.{octetsOfHexCall, hexOfOctetsCall, decimalOfNumberCall, putTextCall}
+use Rattle.lines.specs.Hearing.{silence, tooLong, kept}
 
 abbrev pub publicCalls : List PublicCall
 publicCalls =
@@ -67,4 +70,22 @@ publicCalls =
     -- receiver::open_receiver
     call4 openReceiverCall ∷
     -- receiver::open
-    call3 (openCall width) ∷ []
+    call3 (openCall width) ∷
+    -- lines::decimal
+    call1 decimalCall ∷
+    -- lines::hexadecimal
+    call1 hexadecimalCall ∷
+    -- lines::octets_of_hex
+    call2 octetsOfHexCall ∷
+    -- lines::hex_of_octets
+    call2 hexOfOctetsCall ∷
+    -- lines::decimal_of_number
+    call2 decimalOfNumberCall ∷
+    -- lines::put_text
+    call2 putTextCall ∷
+    -- lines::silence
+    function silence ∷
+    -- lines::too_long
+    function tooLong ∷
+    -- lines::kept
+    function kept ∷ []
