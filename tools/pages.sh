@@ -1,8 +1,8 @@
 #!/usr/bin/env bash
 # Fails when a page names a file or a name that does not exist, or leads to a heading that does not; when docs/USING.md does not show the files of the
-# crate `using` as they are; when docs/CALLS.md, the list that promises 1 and 2 speak of, the crate public_calls or
-# the lines of `call` on README.md do not have exactly the public calls, when docs/ARCHITECTURE.md does not say what crates.txt says, or when a public
-# function has a `requires`.
+# crate `using` as they are; when docs/CALLS.md or the list that promises 1 and 2 speak of do not have exactly the public calls; when the lines of `call`
+# on docs/CALLS.md are not those of the library's calls; when docs/ARCHITECTURE.md does not say what crates.txt says; or when a public function has a
+# `requires`.
 # On the pages, `crate/folder/File.ext#name` is a name in a file under crates/, and `a/path.ext` a file.
 set -euo pipefail
 top=$(cd "$(dirname "$0")/.." && pwd -P)
@@ -67,20 +67,18 @@ while IFS= read -r entry; do
     sed -n '/^publicCalls =/,/^$/p' crates/promises/specs/Calls.antt | grep -qE "(^| )$entry( |\$)" || fault "$entry is not among the publicCalls"
 done < <(grep -A 1 -E '^-- [a-z0-9_]+::[a-z0-9_]+$' crates/promises/specs/Calls.antt | sed -nE 's/^abbrev pub ([A-Za-z0-9]+) :.*/\1/p')
 
-# The line of `call` that makes a public call bears its name, after its crate's where two crates share it; but for these.
+# The line of `call` that makes a call of the library bears its name, but for these. What only the programs are made of has none.
 line_of() {
-    local name=${1##*::}
     case $1 in
-    numbering::start) echo start ;;
     frames::header_of) echo header ;;
-    walks::header) echo walks_header ;;
     frames::look_refusal) echo look ;;
-    *) if [ "$(grep -c "::$name$" <<<"$calls")" -gt 1 ]; then echo "${1%%::*}_$name"; else echo "$name"; fi ;;
+    *) echo "${1##*::}" ;;
     esac
 }
-told=$(for call in $calls; do line_of "$call"; done | sort -u)
-known=$(awk '/^`call` knows these lines:$/ { on = 1; next } on && /^```$/ { fences++; next } fences == 1 { print $1 } fences == 2 { exit }' README.md | sort)
-[ "$told" = "$known" ] || { fault 'README.md does not list a line of `call` for each public call:'; diff <(echo "$known") <(echo "$told") >&2 || true; }
+library=$(grep -E '^(octets|kasumi|kgcore|keystreams|numbering|frames|link)::' <<<"$calls")
+told=$(for call in $library; do line_of "$call"; done | sort -u)
+known=$(awk '/^## By hand: the program call$/ { on = 1; next } on && /^```$/ { fences++; next } fences == 1 { print $1 } fences == 2 { exit }' docs/CALLS.md | sort)
+[ "$told" = "$known" ] || { fault 'docs/CALLS.md does not list a line of `call` for each call of the library:'; diff <(echo "$known") <(echo "$told") >&2 || true; }
 
 uses=$(sed 's/#.*//' crates.txt | sed -nE 's/^([a-z0-9_]+): *(.*)$/\1: \2/p' | sed 's/ *$//' | sort)
 said=$(sed -nE 's/^\| `([a-z0-9_]+)` \| uses ([^|]*) \|.*/\1: \2/p' docs/ARCHITECTURE.md | sed 's/: nothing$/:/; s/`//g; s/,//g' | sort)

@@ -2,13 +2,10 @@
 //! a cell opens, and each line shows what they did. Follows docs/BENCH.md and, for the two ends,
 //! document 01, "The link".
 
-use crate::call::form::shown as octets_shown;
-use crate::hearing::{Heard, Hearing};
 use crate::lines::{based, lines, octets};
 use crate::link::ends::{open, seal, Answer};
 use crate::link::states::{open_receiver, open_sender, Receiver, Sender};
 use crate::refusals::{NONE, REPEAT, ROOM};
-use std::fmt;
 
 /// A key that everybody may know.
 const KEY: [u8; 16] = [0, 1, 2, 3, 4, 5, 6, 7, 8, 9, 10, 11, 12, 13, 14, 15];
@@ -38,91 +35,21 @@ pub fn output(input: &[u8]) -> Vec<u8> {
 }
 
 /// What a heading says.
-pub fn heading() -> String {
+fn heading() -> String {
     row(["phone", "box", "number", "answer", "next"].map(String::from), "text")
 }
 
-/// Where a play of the bench stands between two octets, as the product keeps it: the shelf is 46
-/// octets a place, one after the other, and the size of each frame.
-#[derive(Clone, Copy)]
-pub struct Play {
-    pub heard: Heard,
-    pub phone: Sender,
-    pub cell: Receiver,
-    pub frames: [u8; 460],
-    pub sizes: [u8; 10],
-}
-
-impl Play {
-    pub fn start() -> Play {
-        let Bench { phone, cell, .. } = Bench::new();
-        Play { heard: Heard::nothing(), phone, cell, frames: [0; 460], sizes: [0; 10] }
-    }
-
-    /// The answer to the line heard, and what stands after it.
-    fn step(&self) -> (String, Play) {
-        let place = |k: usize| {
-            let size = usize::from(self.sizes[k]).min(FRAME);
-            self.frames[FRAME * k..][..size].to_vec()
-        };
-        let shelf = std::array::from_fn(place);
-        let mut bench = Bench { phone: self.phone, cell: self.cell, shelf, kept: None };
-        let answer = match self.heard.line() {
-            Some(line) => bench.answer(line),
-            None => bench.bad("long"),
-        };
-        let mut then =
-            Play { heard: Heard::nothing(), phone: bench.phone, cell: bench.cell, ..*self };
-        if let Some(k) = bench.kept {
-            let frame = &bench.shelf[k];
-            then.frames[FRAME * k..][..frame.len()].copy_from_slice(frame);
-            then.sizes[k] = frame.len() as u8;
-        }
-        (answer, then)
-    }
-}
-
-impl Hearing for Play {
-    /// Five columns of eleven octets, a text of 46, a line end.
-    const ROOM: usize = 5 * 11 + FRAME + 1;
-
-    fn heard(&self) -> Heard {
-        self.heard
-    }
-
-    fn answer(&self) -> String {
-        self.step().0
-    }
-
-    fn ended(&self) -> Play {
-        self.step().1
-    }
-
-    fn with(&self, heard: Heard) -> Play {
-        Play { heard, ..*self }
-    }
-}
-
-impl fmt::Display for Play {
-    fn fmt(&self, text: &mut fmt::Formatter) -> fmt::Result {
-        let Play { heard, phone, cell, frames, sizes } = self;
-        write!(text, "{heard} {phone} {cell} {} {}", octets_shown(frames), octets_shown(sizes))
-    }
-}
-
-/// The place at which the last line had a frame kept is told apart.
 struct Bench {
     phone: Sender,
     cell: Receiver,
     shelf: [Vec<u8>; 10],
-    kept: Option<usize>,
 }
 
 impl Bench {
     fn new() -> Bench {
         let (_, phone) = open_sender(&KEY, IOV, 3, 0);
         let (_, cell) = open_receiver(&KEY, IOV, 3, 0);
-        Bench { phone, cell, shelf: Default::default(), kept: None }
+        Bench { phone, cell, shelf: Default::default() }
     }
 
     fn answer(&mut self, line: &[u8]) -> String {
@@ -176,7 +103,6 @@ impl Bench {
         };
         let (number, frame) = self.seal(text);
         self.shelf[k] = frame;
-        self.kept = Some(k);
         self.nothing_handed(number, format!("kept {k}"))
     }
 

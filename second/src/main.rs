@@ -8,7 +8,6 @@ mod check;
 mod demo;
 mod fast;
 mod gates;
-mod hearing;
 mod kasumi;
 mod keystreams;
 mod kgcore;
@@ -66,10 +65,10 @@ fn output(words: &[&str]) -> Result<Vec<u8>, String> {
         ["demo"] => Ok(demo::output(&input()?)),
         ["using"] => Ok(using::output().into()),
         ["cases", "stream"] => Ok(cases::stream::input().into()),
-        ["cases", "call"] => Ok(cases::call::input().into()),
+        ["cases", "call"] => Ok(call::input().into()),
         ["cases", "walk"] => Ok(cases::walk::input().into()),
         ["cases", "demo"] => Ok(cases::demo::input().into()),
-        ["cases", "sweep"] => Ok((cases::link::numbers::sweep().join("\n") + "\n").into()),
+        ["cases", "sweep"] => Ok(call::sweep().into()),
         ["huge", "stream"] => Ok(cases::huge::stream()),
         ["huge", "call"] => Ok(cases::huge::call()),
         ["huge", "walk"] => Ok(cases::huge::walk()),

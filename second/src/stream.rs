@@ -1,7 +1,8 @@
 //! The program `stream`: a line is M, key, INPUT and direction, its answer the GEA4 octets.
 //! Follows document 01, "Examples to hold on to", the paragraph after the table of `walk`.
 
-use crate::{lines, product};
+use crate::lines;
+use crate::product::ciphers;
 
 const LARGEST_M: u32 = 1_520;
 
@@ -21,7 +22,7 @@ pub fn answer(line: &[u8]) -> Option<String> {
     let direction = lines::based(direction, 2)?;
 
     let mut output = vec![0; m as usize];
-    Some(match product::gea4(&key, input, direction, m, &mut output) {
+    Some(match ciphers::gea4(&key, input, direction, m, &mut output) {
         0 => lines::hex(&output),
         refusal => refusal.to_string(),
     })

@@ -2,10 +2,10 @@
 //! Follows document 01, "Examples to hold on to", the two paragraphs around its table.
 
 use crate::lines::{based, lines};
-use crate::link::numbering::{number, History, LAST_N};
-use crate::refusals::{NONE, RANGE, REPEAT};
+use crate::link::numbering::{History, LAST_N};
+use crate::refusals::{NONE, REPEAT};
 
-pub const HEADER: &str = "N number answer next\n";
+const HEADER: &str = "N number answer next\n";
 
 pub fn output(input: &[u8]) -> String {
     let mut history = History::new();
@@ -26,20 +26,6 @@ fn step(history: &mut History, line: &[u8]) -> String {
         REPEAT => format!("{n} {candidate} {REPEAT} {}\n", history.next()),
         refusal => format!("{n} - {refusal} {}\n", history.next()),
     }
-}
-
-/// The row of a line, or of one that is too long, in any state; and the state after it.
-pub fn row(next: u32, marks: u32, line: Option<&[u8]>) -> (String, u32, u32) {
-    let Some(n) = line.and_then(read_n) else {
-        return (format!("? - {RANGE} {next}\n"), next, marks);
-    };
-    let step = number(next, marks, n);
-    let row = match step.refusal {
-        NONE => format!("{n} {} ok {}\n", step.number, step.next),
-        REPEAT => format!("{n} {} {REPEAT} {}\n", step.number, step.next),
-        refusal => format!("{n} - {refusal} {}\n", step.next),
-    };
-    (row, step.next, step.marks)
 }
 
 /// One to three digits with a value up to 511.

@@ -1,192 +1,209 @@
-// The fields of a line: what stands between single spaces, as numbers and octets.
+// The fields of a line, between single spaces. A reader of a field gives what the field says and the cursor behind it.
 ghost use mathlib.Core.Path.{_≡_};
 ghost use Prim.Native.Nat.{_≤_};
 ghost use lib.ListN.{length};
 ghost use Rattle.io.specs.Counts.{Counts};
 
+// Where the reading of a line stands: behind the field that was read last, and whether each field so far had its form.
+pub(crate) struct Cursor {
+    pub at: usize,
+    pub ok: bool,
+}
+
+// Where a field stands in its line.
+pub(crate) struct Span {
+    pub start: usize,
+    pub end: usize,
+}
+
 // A number of 8, of 16, of 32 and of 64 bits.
-pub(crate) struct Octet {
-    pub ok: bool,
+pub(crate) struct Field8 {
     pub value: u8,
+    pub next: Cursor,
 }
 
-pub(crate) struct Word {
-    pub ok: bool,
+pub(crate) struct Field16 {
     pub value: u16,
+    pub next: Cursor,
 }
 
-pub(crate) struct Long {
-    pub ok: bool,
+pub(crate) struct Field32 {
     pub value: u32,
+    pub next: Cursor,
 }
 
-pub(crate) struct Number {
-    pub ok: bool,
+pub(crate) struct Field64 {
     pub value: u64,
+    pub next: Cursor,
 }
 
-// Octets of a line, of which `count` are meant.
-pub(crate) struct Octets {
+// A number of octets.
+pub(crate) struct SizeField {
+    pub value: usize,
+    pub next: Cursor,
+}
+
+// A number of octets with which a line ends, and whether the whole line has its form.
+pub(crate) struct LastField {
+    pub value: usize,
     pub ok: bool,
+}
+
+// Octets, of which `count` are meant.
+pub(crate) struct OctetsField {
     pub octets: [u8; 2048],
     pub count: usize,
+    pub next: Cursor,
 }
 
-// A lent output: its first `size` octets, each AA.
-pub(crate) struct Lent {
-    pub ok: bool,
-    pub octets: [u8; 65600],
-    pub size: usize,
-}
-
-// How many fields a line has: one more than its spaces.
-pub(crate) fn count(line: &[u8]) -> usize {
-    let mut spaces = 0;
-    let mut i = 0;
-    while i < line.len() {
-        if line[i] == b' ' {
-            spaces += 1;
-        }
-        i += 1;
-    }
-    spaces + 1
-}
-
-// Field k of a line, from 0; past the last field it is empty.
-pub(crate) fn field(line: &[u8], k: usize) -> &[u8] {
-    let start = start_of(line, k);
-    let end = end_of(line, start);
+// The first field of a line.
+pub(crate) fn name(line: &[u8]) -> &[u8] {
+    let start = 0;
+    let end = bytes::scan::find(line, start, line.len(), b' ');
     &line[start..end]
 }
 
-// Where field k starts: past the k-th space.
-fn start_of(line: &[u8], k: usize) -> usize
-    ensures { λ r. ⌜ r ≤ length (now (line .entry)) ⌝ }
+// The field behind the cursor, past one space. Behind the last field there is none: an empty one stands for it, which no reader takes.
+pub(crate) fn field(line: &[u8], cursor: Cursor) -> Span
+    ensures { λ r. ⌜ (r .start ≤ r .end) × (r .end ≤ length (now (line .entry))) ⌝ }
 {
-    let mut left = k;
-    let mut i = 0;
-    while i < line.len() {
-        if left == 0 {
-            return i;
-        }
-        if line[i] == b' ' {
-            left -= 1;
-        }
-        i += 1;
+    let at = cursor.at;
+    let len = line.len();
+    if at < len {
+        let start = at + 1;
+        let end = bytes::scan::find(line, start, len, b' ');
+        return Span { start, end };
     }
-    i
+    Span {
+        start: len,
+        end: len,
+    }
 }
 
-// Where the field that starts at `start` ends: at the next space, or at the line's end.
-fn end_of(line: &[u8], start: usize) -> usize
-    requires { ⌜ start ≤ length (now line) ⌝ }
-    ensures { λ r. ⌜ (start ≤ r) × (r ≤ length (now (line .entry))) ⌝ }
-{
-    let mut i = start;
-    while i < line.len() {
-        if line[i] == b' ' {
-            return i;
-        }
-        i += 1;
-    }
-    i
+// Whether each field had its form and no other follows.
+pub(crate) fn is_end(line: &[u8], cursor: Cursor) -> bool {
+    cursor.ok & (cursor.at == line.len())
 }
 
-// A number, decimal or hex after 0x.
-pub(crate) fn number64(line: &[u8], k: usize) -> Number {
-    let read = read_number(field(line, k));
-    Number {
-        ok: read.refusal == 0,
+// A number up to `most`, decimal or hex after 0x; 0 where there is none.
+fn number_to(line: &[u8], cursor: Cursor, most: u64) -> Field64
+    ensures { λ r. ⌜ r .value ≤ most ⌝ }
+{
+    let span = field(line, cursor);
+    let start = span.start;
+    let end = span.end;
+    let read = read_number(&line[start..end]);
+    if most < read.value {
+        return Field64 {
+            value: 0,
+            next: Cursor { at: end, ok: false },
+        };
+    }
+    Field64 {
         value: read.value,
+        next: Cursor {
+            at: end,
+            ok: cursor.ok & (read.refusal == 0),
+        },
     }
 }
 
 fn read_number(text: &[u8]) -> lines::Number {
     if 2 < text.len() {
-        if text[0] == b'0' {
-            if text[1] == b'x' {
-                return lines::hexadecimal(&text[2..]);
-            }
+        if (text[0] == b'0') & (text[1] == b'x') {
+            return lines::hexadecimal(&text[2..]);
         }
     }
     lines::decimal(text)
 }
 
-// A number up to `most`, or 0 where there is none.
-fn number_to(line: &[u8], k: usize, most: u64) -> Number
-    ensures { λ r. ⌜ r .value ≤ most ⌝ }
-{
-    let read = number64(line, k);
-    if most < read.value {
-        return Number {
-            ok: false,
-            value: 0,
-        };
-    }
-    read
-}
-
-pub(crate) fn number8(line: &[u8], k: usize) -> Octet {
-    let read = number_to(line, k, 0xFF);
-    Octet {
-        ok: read.ok,
+pub(crate) fn number8(line: &[u8], cursor: Cursor) -> Field8 {
+    let read = number_to(line, cursor, 0xFF);
+    let next = read.next;
+    Field8 {
         value: read.value as u8,
+        next,
     }
 }
 
-pub(crate) fn number16(line: &[u8], k: usize) -> Word {
-    let read = number_to(line, k, 0xFFFF);
-    Word {
-        ok: read.ok,
+pub(crate) fn number16(line: &[u8], cursor: Cursor) -> Field16 {
+    let read = number_to(line, cursor, 0xFFFF);
+    let next = read.next;
+    Field16 {
         value: read.value as u16,
+        next,
     }
 }
 
-pub(crate) fn number32(line: &[u8], k: usize) -> Long {
-    let read = number_to(line, k, 0xFFFF_FFFF);
-    Long {
-        ok: read.ok,
+pub(crate) fn number32(line: &[u8], cursor: Cursor) -> Field32 {
+    let read = number_to(line, cursor, 0xFFFF_FFFF);
+    let next = read.next;
+    Field32 {
         value: read.value as u32,
+        next,
     }
 }
 
-// A lent output before a call. Kept apart, so that a proof above need not look at 65,600 octets.
-fn blank() -> [u8; 65600]
+pub(crate) fn number64(line: &[u8], cursor: Cursor) -> Field64 {
+    number_to(line, cursor, u64::MAX)
+}
+
+// A number of octets, at most as many as can be lent.
+pub(crate) fn size(line: &[u8], cursor: Cursor) -> SizeField {
+    let read = number_to(line, cursor, 65600);
+    let next = read.next;
+    SizeField {
+        value: read.value as usize,
+        next,
+    }
+}
+
+// The size of a lent output, the last field of its line.
+pub(crate) fn room(line: &[u8], cursor: Cursor) -> LastField {
+    let read = size(line, cursor);
+    let ok = is_end(line, read.next);
+    LastField {
+        value: read.value,
+        ok,
+    }
+}
+
+// An output before it is lent. Kept apart, so that a proof above need not look at 65,600 octets.
+pub(crate) fn blank() -> [u8; 65600]
     ensures { λ r. ⌜ 65600 ≡ length r ⌝ }
 {
     [0xAA; 65600]
 }
 
-// An output of so many octets as the field says, at most 65,600.
-pub(crate) fn lent_output(line: &[u8], k: usize) -> Lent
-    ensures { λ r. ⌜ Counts (r .size) (r .octets) ⌝ }
+// How much of an output a line has lent: all that it asks for, since a reader takes no more than there is. It stands right before each use, where the
+// prover looks for what `&output[..n]` needs.
+pub(crate) fn within(size: usize, output: &[u8]) -> usize
+    ensures { λ r. ⌜ Counts r (now (output .entry)) ⌝ }
 {
-    let read = number_to(line, k, 65600);
-    let octets = blank();
-    Lent {
-        ok: read.ok,
-        octets,
-        size: read.value as usize,
+    if output.len() < size {
+        return output.len();
     }
+    size
 }
 
 // Octets as pairs of hex digits, or a lone - for none.
-pub(crate) fn octets_field(line: &[u8], k: usize) -> Octets
+pub(crate) fn octets(line: &[u8], cursor: Cursor) -> OctetsField
     ensures { λ r. ⌜ Counts (r .count) (r .octets) ⌝ }
 {
-    let text = field(line, k);
+    let span = field(line, cursor);
+    let start = span.start;
+    let end = span.end;
+    let text = &line[start..end];
+    let none = check::same(text, b"-");
     let mut octets = [0u8; 2048];
-    if text.len() == 1 {
-        return Octets {
-            ok: text[0] == b'-',
-            octets,
-            count: 0,
-        };
-    }
     let put = lines::octets_of_hex(text, &mut octets);
-    Octets {
-        ok: (put.refusal == 0) & (text.len() != 0),
+    let pairs = (put.refusal == 0) & (start < end);
+    OctetsField {
         octets,
         count: put.count,
+        next: Cursor {
+            at: end,
+            ok: cursor.ok & (none | pairs),
+        },
     }
 }

@@ -1,6 +1,14 @@
-// What the program writes. Each function answers whether it could.
+// What the program writes. Each function answers whether it could. Parts of a line are joined by `&`, which has no branch to prove: after a part that
+// could not be written others may be, but no line end.
 ghost use Prim.Native.Nat.{_<_, _≤_};
+use crate::fields;
 use libc::STDOUT_FILENO;
+
+// What a module says of a line: whether the answer to it could be written, or that its name is none of the module's.
+pub(crate) enum Answer {
+    Told(bool),
+    NotMine,
+}
 
 // The answer to a line that is no call.
 pub(crate) fn bad() -> bool {
@@ -17,43 +25,70 @@ pub(crate) fn block(refusal: u8, block: u64) -> bool {
         octets[i] = (rest % 256) as u8;
         rest /= 256;
     }
-    lent(refusal, &octets)
+    part(refusal, &octets)
 }
 
-// A refusal and what a lent buffer holds.
-pub(crate) fn lent(refusal: u8, octets: &[u8]) -> bool {
-    number(refusal as u64) && buffer(octets) && line_end()
+// A refusal and octets.
+pub(crate) fn part(refusal: u8, octets: &[u8]) -> bool {
+    line_end(number(refusal as u64) & buffer(octets))
 }
 
-// A refusal and what two lent buffers hold.
-pub(crate) fn both_lent(refusal: u8, octets1: &[u8], octets2: &[u8]) -> bool {
-    number(refusal as u64) && buffer(octets1) && buffer(octets2) && line_end()
+// A refusal and what a lent output holds.
+pub(crate) fn lent(refusal: u8, octets: &[u8; 65600], room: usize) -> bool {
+    line_end(number(refusal as u64) & output(octets, room))
+}
+
+// A refusal and what two lent outputs hold.
+pub(crate) fn both_lent(
+    refusal: u8,
+    octets1: &[u8; 65600],
+    room1: usize,
+    octets2: &[u8; 65600],
+    room2: usize,
+) -> bool {
+    line_end(number(refusal as u64) & output(octets1, room1) & output(octets2, room2))
+}
+
+// What sealing and opening answer first: a refusal, a number and a length.
+pub(crate) fn outcome(refusal: u8, value: u32, size: usize) -> bool {
+    number(refusal as u64) & next_number(value as u64) & next_number(size as u64)
+}
+
+// A space, and what a lent output holds.
+pub(crate) fn output(octets: &[u8; 65600], room: usize) -> bool {
+    front(octets, room)
+}
+
+fn front(octets: &[u8], room: usize) -> bool {
+    let size = fields::within(room, octets);
+    buffer(&octets[..size])
 }
 
 pub(crate) fn number(number: u64) -> bool {
     io::print_decimal(STDOUT_FILENO, number)
 }
 
-pub(crate) fn space() -> bool {
+fn space() -> bool {
     io::write_all(STDOUT_FILENO, b" ")
 }
 
 // A space, and a number.
 pub(crate) fn next_number(value: u64) -> bool {
-    space() && number(value)
+    space() & number(value)
 }
 
-pub(crate) fn line_end() -> bool {
-    io::write_all(STDOUT_FILENO, b"\n")
+// The end of a line that could be told whole; another gets none.
+pub(crate) fn line_end(told: bool) -> bool {
+    told && io::write_all(STDOUT_FILENO, b"\n")
 }
 
-// A space, and all octets of a buffer.
+// A space, and octets.
 pub(crate) fn buffer(octets: &[u8]) -> bool {
-    space() && hex(octets)
+    space() & hex(octets)
 }
 
 // Octets as hex, or - where there are none.
-pub(crate) fn hex(octets: &[u8]) -> bool {
+fn hex(octets: &[u8]) -> bool {
     if octets.len() == 0 {
         return io::write_all(STDOUT_FILENO, b"-");
     }

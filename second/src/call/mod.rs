@@ -1,124 +1,94 @@
-//! The program `call`: a line is one of the product's calls, its answer the refusal
-//! number and everything that was handed out. The rule that it follows:
+//! The program `call`: a line is one of the product's calls, its answer the refusal number and
+//! everything that was handed out. Each subject of the product has a file here with the forms of
+//! its lines, their answers, and lines to try them with.
 //!
-//! ```text
-//! kasumi KEY BLOCK
-//! kgcore KEY CA CB CC CD CE CL ROOM
-//! gsm KEY COUNT ROOM1 ROOM2
-//! ecsd KEY COUNT ROOM1 ROOM2
-//! gea4 KEY INPUT DIRECTION M ROOM
-//! cut OCTETS START LENGTH ROOM
-//! size BITS
-//! first_bits OCTET COUNT
-//! ```
-//!
-//! One space stands between fields. KEY and OCTETS are pairs of hex digits, at most 2,048,
-//! or `-` for none. All else are numbers within the type of their parameter: decimal, or hex
-//! after `0x`. ROOM is the size of a lent output, at most 65,600. A line has at most 8,192
-//! octets. The answer is the refusal number, then KASUMI's block or every octet of each
-//! lent output (`-` for none), in capital hex. Where nothing can be refused, only the result
-//! is shown, in decimal. The lines of the link are described in `call/link.rs`, those of texts
-//! in `call/text.rs`.
+//! One space stands between fields. Octets are pairs of hex digits, at most 2,048, or `-` for
+//! none. All else are numbers within the type of their parameter: decimal, or hex after `0x`. A
+//! room is the size of a lent output, at most 65,600. A line has at most 8,192 octets. The answer
+//! is the refusal number, where the call can be refused, and then what it hands out: octets and
+//! every octet of each lent output in capital hex, numbers in decimal.
 
+mod bits;
+mod ciphers;
+mod ends;
 pub mod form;
-mod link;
-mod text;
+mod forms;
+mod headers;
+mod numbers;
 
+use crate::cases::ended;
 use crate::lines::fields;
-use crate::product::{self, Numbers};
-use form::{handed_out, lent, number, octets_field};
 
 const LONGEST_LINE: usize = 8192;
+
+/// The calls of one subject.
+struct Subject {
+    /// The name of each, its fields, and the refusals that it can answer, as in
+    /// `cut OCTETS START:u32 LENGTH:u32 ROOM:size -> 0 4`. A field without a type is octets, one
+    /// of the type `key` the 16 octets of a state's key.
+    forms: &'static [&'static str],
+    /// The answer to the fields of a line, or nothing for a line that is not of a form.
+    answer: fn(&[&[u8]]) -> Option<String>,
+    /// Lines to try the calls with, beside those that `forms` makes of any form.
+    cases: fn() -> Vec<String>,
+}
+
+const SUBJECTS: [Subject; 5] =
+    [ciphers::SUBJECT, bits::SUBJECT, numbers::SUBJECT, headers::SUBJECT, ends::SUBJECT];
+
+/// Calls that the product has not yet: their lines are left out of the test input.
+const NOT_YET: &[&str] = &["xor", "prepare_key"];
 
 /// The answer to a line, or nothing for a line that is not of the form.
 pub fn answer(line: &[u8]) -> Option<String> {
     if line.len() > LONGEST_LINE {
         return None;
     }
-    match *fields(line).as_slice() {
-        [b"kasumi", key, block] => {
-            let (refusal, block) = product::kasumi(&octets_field(key)?, number(block)?);
-            Some(format!("{refusal} {block:016X}"))
-        }
-        [b"kgcore", key, ca, cb, cc, cd, ce, cl, room] => {
-            let numbers = Numbers {
-                ca: number(ca)?,
-                cb: number(cb)?,
-                cc: number(cc)?,
-                cd: number(cd)?,
-                ce: number(ce)?,
-                cl: number(cl)?,
-            };
-            let (key, mut output) = (octets_field(key)?, lent(room)?);
-            let refusal = product::kgcore(&key, &numbers, &mut output);
-            Some(handed_out(refusal, &[output]))
-        }
-        [b"gsm", key, count, room1, room2] => a5(product::gsm, key, count, room1, room2),
-        [b"ecsd", key, count, room1, room2] => a5(product::ecsd, key, count, room1, room2),
-        [b"gea4", key, input, direction, m, room] => {
-            let (key, mut output) = (octets_field(key)?, lent(room)?);
-            let (input, direction, m) = (number(input)?, number(direction)?, number(m)?);
-            let refusal = product::gea4(&key, input, direction, m, &mut output);
-            Some(handed_out(refusal, &[output]))
-        }
-        [b"cut", source, start, length, room] => {
-            let (source, mut output) = (octets_field(source)?, lent(room)?);
-            let refusal = product::cut(&source, number(start)?, number(length)?, &mut output);
-            Some(handed_out(refusal, &[output]))
-        }
-        [b"size", bits] => Some(product::size(number(bits)?).to_string()),
-        [b"first_bits", octet, count] => {
-            Some(product::first_bits(number(octet)?, number(count)?).to_string())
-        }
-        ref others => link::answer(others).or_else(|| text::answer(others)),
-    }
+    let fields = fields(line);
+    SUBJECTS.iter().find_map(|subject| (subject.answer)(&fields))
 }
 
-fn a5(
-    call: fn(&[u8], u32, &mut [u8], &mut [u8]) -> u8,
-    key: &[u8],
-    count: &[u8],
-    room1: &[u8],
-    room2: &[u8],
-) -> Option<String> {
-    let (mut block1, mut block2) = (lent(room1)?, lent(room2)?);
-    let refusal = call(&octets_field(key)?, number(count)?, &mut block1, &mut block2);
-    Some(handed_out(refusal, &[block1, block2]))
+/// The test input.
+pub fn input() -> String {
+    let mut lines = lines();
+    lines.retain(|line| !NOT_YET.contains(&line.split(' ').next().unwrap_or_default()));
+    ended(lines)
+}
+
+/// A second one: every V from 0 to 600 against every N.
+pub fn sweep() -> String {
+    ended(numbers::sweep())
+}
+
+fn lines() -> Vec<String> {
+    let parts = SUBJECTS.iter().map(|subject| [(subject.cases)(), forms::lines(subject.forms)]);
+    parts.flatten().flatten().chain(forms::no_calls()).collect()
 }
 
 #[cfg(test)]
 mod tests {
     use super::*;
+    use std::collections::BTreeSet;
 
     fn answer_to(line: &str) -> String {
         answer(line.as_bytes()).unwrap_or("?".to_string())
     }
 
     #[test]
-    fn every_octet_of_a_lent_buffer_is_shown() {
-        assert_eq!(answer_to("cut F0F0 2 7 3"), "0 C2AAAA");
-        assert_eq!(answer_to("cut - 0 0 0"), "0 -");
-        assert_eq!(answer_to("cut F0 0 9 1"), "4 AA");
-        assert_eq!(answer_to("kasumi 00 0"), "1 0000000000000000");
-        assert_eq!(answer_to("gsm - 4194304 1 0"), "1 AA -");
-    }
-
-    #[test]
-    fn the_type_of_a_parameter_bounds_its_number() {
-        let kgcore = |ca: &str| answer_to(&format!("kgcore - {ca} 0 0 0 0 1 0"));
-        assert_eq!(kgcore("255"), "1 -");
-        assert_eq!(kgcore("0x00000000000000ff"), "1 -");
-        assert_eq!(kgcore("0000000255"), "1 -");
-        for bad in ["256", "0x100", "00000000255", "0x000000000000000ff", "0Xff", "0x", "-1"] {
-            assert_eq!(kgcore(bad), "?");
+    fn every_refusal_of_every_call_is_met_and_no_other() {
+        let lines = lines();
+        for form in SUBJECTS.iter().flat_map(|subject| subject.forms) {
+            let (name, refusals) = (form.split(' ').next(), form.split_once(" -> "));
+            let own = lines.iter().filter(|line| line.split(' ').next() == name);
+            let answers: BTreeSet<String> = own
+                .map(|line| answer_to(line).split(' ').next().unwrap_or_default().to_string())
+                .collect();
+            assert!(answers.contains("?"), "{form}");
+            if let Some((_, refusals)) = refusals {
+                let met = answers.iter().map(String::as_str).filter(|&answer| answer != "?");
+                assert_eq!(met.collect::<BTreeSet<_>>(), refusals.split(' ').collect(), "{form}");
+            }
         }
-        assert_eq!(answer_to("cut - 4294967295 0 0"), "0 -");
-        assert_eq!(answer_to("cut - 4294967296 0 0"), "?");
-        assert_eq!(answer_to("cut - 0 0 65601"), "?");
-        assert_eq!(answer_to("size 4294967295"), "536870912");
-        assert_eq!(answer_to("size 4294967296"), "?");
-        assert_eq!(answer_to("first_bits 255 4294967295"), "255");
-        assert_eq!(answer_to("first_bits 256 0"), "?");
     }
 
     #[test]

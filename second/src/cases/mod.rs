@@ -1,38 +1,35 @@
-//! Test inputs for the product's programs, the same on every machine.
+//! Test inputs for the product's programs, the same on every machine. Those for `call` stand
+//! beside its lines.
 
-pub mod call;
-mod call_forms;
 pub mod demo;
 pub mod huge;
-pub mod link;
 pub mod stream;
-mod text;
 pub mod walk;
 
 use crate::random::Random;
 use crate::vectors::{self, Published};
 
 /// The key of cases in which any key would do.
-const KEY: &str = "000102030405060708090A0B0C0D0E0F";
+pub const KEY: &str = "000102030405060708090A0B0C0D0E0F";
 
 /// Sizes around an octet and around KASUMI's block of 64 bits or 8 octets.
-const SIZES: [usize; 10] = [1, 7, 8, 9, 63, 64, 65, 127, 128, 129];
+pub const SIZES: [usize; 10] = [1, 7, 8, 9, 63, 64, 65, 127, 128, 129];
 
 /// Octets just beside the digits and letters of hex, which a careless reader takes for digits.
-const NEAR_HEX: [char; 8] = ['g', 'G', '`', '@', '/', ':', '-', 'x'];
+pub const NEAR_HEX: [char; 8] = ['g', 'G', '`', '@', '/', ':', '-', 'x'];
 
 /// The calls of a copied vector file.
-fn published(file: &str) -> Vec<Published> {
+pub fn published(file: &str) -> Vec<Published> {
     vectors::calls(file).expect("the copied vector files are of their form")
 }
 
-fn ended(lines: Vec<String>) -> String {
+pub fn ended(lines: Vec<String>) -> String {
     lines.iter().flat_map(|line| [line.as_str(), "\n"]).collect()
 }
 
 /// A line with one character changed, left out or put in: nearly, and now and then still,
 /// of the form.
-fn spoiled(line: &str, random: &mut Random) -> String {
+pub fn spoiled(line: &str, random: &mut Random) -> String {
     let mut characters: Vec<char> = line.chars().collect();
     let place = random.below(characters.len());
     let new = char::from(random.one_of(b"09afAFgGxX -+:/@`\t\r_,.~"));

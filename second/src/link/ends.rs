@@ -92,7 +92,7 @@ fn xored(link: &Link, number: u32, payload: &[u8]) -> Vec<u8> {
 #[cfg(test)]
 mod tests {
     use super::*;
-    use crate::product;
+    use crate::product::ciphers;
     use crate::refusals::{LENGTH, START};
 
     const LINK: Link = Link { key: [0x5A; 16], iov: 0, sapi: 3, direction: 1 };
@@ -107,7 +107,7 @@ mod tests {
         assert_eq!(output[..6], [0x00, 0x08, 0x01, 0x31, 0x00, 0x01]);
         assert_eq!(output[10..], [0xAA, 0xAA]);
 
-        assert_eq!(product::gea4(&LINK.key, 0x9800_0201, 1, 4, &mut keystream), NONE);
+        assert_eq!(ciphers::gea4(&LINK.key, 0x9800_0201, 1, 4, &mut keystream), NONE);
         let plain: Vec<u8> = output[6..10].iter().zip(keystream).map(|(a, b)| a ^ b).collect();
         assert_eq!(plain, [1, 2, 3, 4]);
     }

@@ -2,11 +2,9 @@
 -- Assumes nothing.
 use Prim.Native.Nat.{ℕ, _-_, _≤_}
 use borrow.Author.Needs.{needs}
-use mathlib.Core.List.{List}
-use denote.Ref.{now}
-use lib.ListN.{length, length-set}
+use lib.ListN.{length}
 use mathlib.Core.Logic.{⊎-elim}
-use mathlib.Core.Path.{_≡_, refl, ap, _∙_}
+use mathlib.Core.Path.{_≡_, refl, ap}
 use native.Mathlib.Omega.{arith}
 use Rattle.call.proofs.hear.Statement.{statement}
 use Rattle.call.proofs.hear.Tie as tie
@@ -32,17 +30,11 @@ same-length c = search needs
 returns : tie.Need-returns Inv-loop μ-loop
 returns c = search needs
 
-shared-slice-read-line : tie.Need-shared-slice-read-line Inv-loop μ-loop
-shared-slice-read-line c = search needs
+shared-slice-read-kept : tie.Need-shared-slice-read-kept Inv-loop μ-loop
+shared-slice-read-kept c = search needs
 
-slice-write-line : tie.Need-slice-write-line Inv-loop μ-loop
-slice-write-line c = search needs
-
-add-count : tie.Need-add-count Inv-loop μ-loop
-add-count c = search needs
-
-add-count-2 : tie.Need-add-count-2 Inv-loop μ-loop
-add-count-2 c = search needs
+kept-requires : tie.Need-kept-requires Inv-loop μ-loop
+kept-requires c κs = search needs
 
 add-i : tie.Need-add-i Inv-loop μ-loop
 add-i c = search needs
@@ -52,9 +44,7 @@ loop-less c = search needs
 
 loop-again : tie.Need-loop-again Inv-loop μ-loop
 loop-again c =
-    let kept = c .before .before .before .loop .inv .1 in
-    let long : (after : List ℕ) → after ≡ c .before .before .before .loop .line → length after ≡ length (now (c .before .before .before .before .before .before .args .line)) = λ after e. ap length e ∙ kept in
-    (search needs, ⊎-elim (λ w. long _ (w .4)) (⊎-elim (λ w. ap length (w .3) ∙ simp length-set kept) (λ w. long _ (w .2))) (c .if1 .came))
+    (search needs, ⊎-elim (λ w. omega (arith, ap length (w .4))) (λ w. omega (arith, ap length (w .6))) (c .if1 .came))
 
 same-length-2 : tie.Need-same-length-2 Inv-loop μ-loop
 same-length-2 c = search needs
@@ -73,10 +63,8 @@ hear-spec =
     answer-heard-requires
     same-length
     returns
-    shared-slice-read-line
-    slice-write-line
-    add-count
-    add-count-2
+    shared-slice-read-kept
+    kept-requires
     add-i
     loop-less
     loop-again

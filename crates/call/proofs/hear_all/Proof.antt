@@ -19,11 +19,11 @@ loop-holds c = refl
 hear-some-requires : tie.Need-hear-some-requires Inv-loop μ-loop
 hear-some-requires c κs = search needs
 
-same-length : tie.Need-same-length Inv-loop μ-loop
-same-length c = search needs
+enum-known-count : tie.Need-enum-known-count Inv-loop μ-loop
+enum-known-count c = search needs
 
-returns : tie.Need-returns Inv-loop μ-loop
-returns c = search needs
+sub-turns : tie.Need-sub-turns Inv-loop μ-loop
+sub-turns c = search needs
 
 loop-less : tie.Need-loop-less Inv-loop μ-loop
 loop-less c = search needs
@@ -31,14 +31,23 @@ loop-less c = search needs
 loop-again : tie.Need-loop-again Inv-loop μ-loop
 loop-again c = search needs
 
-sub-turns : tie.Need-sub-turns Inv-loop μ-loop
-sub-turns c = search needs
+enum-told : tie.Need-enum-told Inv-loop μ-loop
+enum-told c = search needs
 
 loop-less-2 : tie.Need-loop-less-2 Inv-loop μ-loop
 loop-less-2 c = search needs
 
 loop-again-2 : tie.Need-loop-again-2 Inv-loop μ-loop
 loop-again-2 c = search needs
+
+enum-told-2 : tie.Need-enum-told-2 Inv-loop μ-loop
+enum-told-2 c = search needs
+
+same-length : tie.Need-same-length Inv-loop μ-loop
+same-length c = search needs
+
+returns : tie.Need-returns Inv-loop μ-loop
+returns c = search needs
 
 answer-heard-requires : tie.Need-answer-heard-requires Inv-loop μ-loop
 answer-heard-requires c κs = search needs
@@ -63,13 +72,16 @@ hear-all-spec =
     μ-loop
     loop-holds
     hear-some-requires
-    same-length
-    returns
+    enum-known-count
+    sub-turns
     loop-less
     loop-again
-    sub-turns
+    enum-told
     loop-less-2
     loop-again-2
+    enum-told-2
+    same-length
+    returns
     answer-heard-requires
     same-length-2
     returns-2

@@ -32,11 +32,11 @@ loop-less c = omega arith
 loop-again : tie.Need-loop-again Inv-loop μ-loop
 loop-again c = (omega arith, simp length-set (c .before .loop .inv .1))
 
-slice-aggregate-lent : tie.Need-slice-aggregate-lent Inv-loop μ-loop
-slice-aggregate-lent c = sym (c .before .before .loop .inv .1)
+slice-aggregate-part : tie.Need-slice-aggregate-part Inv-loop μ-loop
+slice-aggregate-part c = sym (c .before .before .loop .inv .1)
 
-lent-requires : tie.Need-lent-requires Inv-loop μ-loop
-lent-requires c κs = search needs
+part-requires : tie.Need-part-requires Inv-loop μ-loop
+part-requires c κs = search needs
 
 returns : tie.Need-returns Inv-loop μ-loop
 returns c = search needs
@@ -53,6 +53,6 @@ block-spec =
     array-write-octets
     loop-less
     loop-again
-    slice-aggregate-lent
-    lent-requires
+    slice-aggregate-part
+    part-requires
     returns)

@@ -1,13 +1,24 @@
-//! Ends opened, frames sealed and frames opened: sizes, rooms, numbers, services.
+//! Ends opened, frames sealed and frames opened: sizes, rooms, numbers, services, damage.
 
-use super::{arising, n_of, open_line, payload, receiver, seal_line, sealed, sender, FULL, LINK};
+use super::{open_line, receiver_at, seal_line, sealed, sender_at, LINK};
+use crate::call::headers::payload;
+use crate::call::numbers::{arising, n_of, FULL};
 use crate::cases::{KEY, SIZES};
 use crate::link::frame::framed;
 use crate::link::states::{Link, Receiver, Sender};
 
 pub fn lines() -> Vec<String> {
-    [openings(), sealed_sizes(), sealed_inputs(), opened_sizes(), windows(), late(), others()]
-        .concat()
+    let parts = [
+        openings(),
+        sealed_sizes(),
+        sealed_inputs(),
+        opened_sizes(),
+        windows(),
+        late(),
+        others(),
+        damaged(),
+    ];
+    parts.concat()
 }
 
 /// Keys of many lengths and numbers at their ends, for a sender and for a receiver.
@@ -36,13 +47,13 @@ fn sealed_sizes() -> Vec<String> {
     let mut lines = Vec::new();
     for size in SIZES {
         let rooms = [0, size, size + 5, size + 6, size + 7, size + 46];
-        lines.extend(rooms.map(|room| seal_line(sender(538), &payload(size), room)));
+        lines.extend(rooms.map(|room| seal_line(sender_at(538), &payload(size), room)));
     }
     for (size, room) in [(1_519, 1_525), (1_520, 1_525), (1_520, 1_526), (1_520, 1_527)] {
-        lines.push(seal_line(sender(538), &payload(size), room));
+        lines.push(seal_line(sender_at(538), &payload(size), room));
     }
     for size in [0, 1_521, 2_048] {
-        lines.extend([0, 6, size + 6].map(|room| seal_line(sender(538), &payload(size), room)));
+        lines.extend([0, 6, size + 6].map(|room| seal_line(sender_at(538), &payload(size), room)));
     }
     lines
 }
@@ -73,10 +84,10 @@ fn sealed_inputs() -> Vec<String> {
 
 /// Frames opened with short, exact and larger rooms.
 fn opened_sizes() -> Vec<String> {
-    let receiver = receiver(540, 0xFFFF_FF09);
+    let receiver = receiver_at(540, 0xFFFF_FF09);
     let mut lines = Vec::new();
     for size in SIZES.into_iter().chain([1_519, 1_520]) {
-        let frame = sealed(sender(538), &payload(size));
+        let frame = sealed(sender_at(538), &payload(size));
         let rooms = [0, size - 1, size, size + 1, size + 40];
         lines.extend(rooms.map(|room| open_line(receiver, &frame, room)));
     }
@@ -90,11 +101,11 @@ fn windows() -> Vec<String> {
     let low = [0, 1, 2, 31, 32, 33, 480, 511, 512, 513];
     let high = [480, 479, 33, 32, 1, 0].map(|below| FULL - below);
     for next in low.into_iter().chain(high) {
-        let receiver = receiver(next, arising(next, 0x5555_5555));
+        let receiver = receiver_at(next, arising(next, 0x5555_5555));
         for offset in [-33, -32, -31, -2, -1, 0, 1, 30, 31, 32, 33, 478, 479, 480] {
             let number = i64::from(next) + offset;
             let frame = if (0..i64::from(FULL)).contains(&number) {
-                sealed(sender(number as u32), &payload(5))
+                sealed(sender_at(number as u32), &payload(5))
             } else {
                 framed(LINK.sapi, LINK.direction, n_of(number), &payload(5))
             };
@@ -108,9 +119,9 @@ fn windows() -> Vec<String> {
 fn late() -> Vec<String> {
     let mut lines = Vec::new();
     for number in 568..600 {
-        let frame = sealed(sender(number), &payload(3));
+        let frame = sealed(sender_at(number), &payload(3));
         for marks in [1, 0x6666_6667, 0x9999_9999, u32::MAX] {
-            lines.push(open_line(receiver(600, marks), &frame, 4));
+            lines.push(open_line(receiver_at(600, marks), &frame, 4));
         }
     }
     lines
@@ -129,4 +140,26 @@ fn others() -> Vec<String> {
         }
     }
     lines
+}
+
+/// A sealed frame with each octet changed in turn, cut short at each, and with one more.
+fn damaged() -> Vec<String> {
+    let frame = sealed(sender_at(538), &payload(11));
+    let receiver = receiver_at(537, 0xFFFF_0F0F);
+    let mut frames: Vec<Vec<u8>> = Vec::new();
+    for place in 0..frame.len() {
+        for change in [0x01, 0x02, 0x10, 0x80, 0xFF] {
+            let mut damaged = frame.clone();
+            damaged[place] ^= change;
+            frames.push(damaged);
+        }
+        frames.push(frame[..place].to_vec());
+        let mut without = frame.clone();
+        without.remove(place);
+        frames.push(without);
+    }
+    frames.push([frame.as_slice(), &[0]].concat());
+    frames.push([&[0], frame.as_slice()].concat());
+    frames.push(frame);
+    frames.iter().map(|frame| open_line(receiver, frame, 12)).collect()
 }

@@ -1,11 +1,79 @@
-//! The numbering step alone: windows, whole turns of N, ends, states that cannot arise.
+//! The lines of the numbering, and lines to try them with: document 01's examples, windows, whole
+//! turns of N, ends, states that cannot arise.
 
-use super::{arising, n_of, FULL};
-use crate::link::numbering;
+use super::form::number as number_field;
+use super::Subject;
+use crate::link::numbering::{self, History};
 use crate::random::Random;
 
-pub fn lines() -> Vec<String> {
-    [windows(), turns(), ends(), states(), meeting(), chain()].concat()
+pub const SUBJECT: Subject = Subject {
+    forms: &[
+        "start",
+        "is_good NEXT:u32 MARKS:u32",
+        "number NEXT:u32 MARKS:u32 N:u32 -> 0 2 9 10 11 12",
+    ],
+    answer,
+    cases,
+};
+
+/// NEXT and MARKS are the numbering's state; `number` answers REFUSAL NUMBER NEXT MARKS.
+fn answer(fields: &[&[u8]]) -> Option<String> {
+    match *fields {
+        [b"start"] => {
+            let history = History::new();
+            Some(format!("{} {}", history.next(), history.marks()))
+        }
+        [b"is_good", next, marks] => {
+            let arises = History::of_state(number_field(next)?, number_field(marks)?).is_some();
+            Some(u8::from(arises).to_string())
+        }
+        [b"number", next, marks, n] => {
+            let (next, marks) = (number_field(next)?, number_field(marks)?);
+            let step = numbering::number(next, marks, number_field(n)?);
+            Some(format!("{} {} {} {}", step.refusal, step.number, step.next, step.marks))
+        }
+        _ => None,
+    }
+}
+
+/// One above the last number of a frame.
+pub const FULL: u32 = 1 << 27;
+
+/// These marks as far as they can arise: that of V-1 is set, and none below number 0.
+pub fn arising(next: u32, marks: u32) -> u32 {
+    match next {
+        0 => 0,
+        1..=31 => (marks | 1) & ((1 << next) - 1),
+        _ => marks | 1,
+    }
+}
+
+/// N of a number that may be below 0.
+pub fn n_of(number: i64) -> u32 {
+    number.rem_euclid(512) as u32
+}
+
+fn cases() -> Vec<String> {
+    let parts = [examples(), walk(), windows(), turns(), ends(), states(), meeting(), chain()];
+    parts.concat()
+}
+
+/// P9 to P11 of document 01, and the start of all numbering.
+fn examples() -> Vec<String> {
+    let lines = ["start", "number 4 0xD 500", "number 480 1 448", "number 480 1 447"];
+    lines.map(str::to_string).to_vec()
+}
+
+/// The example of `walk`, each step with the state that the last one left.
+fn walk() -> Vec<String> {
+    let (mut next, mut marks) = (0, 0);
+    let step = |n: u32| {
+        let line = format!("number {next} {marks} {n}");
+        let numbered = numbering::number(next, marks, n);
+        (next, marks) = (numbered.next, numbered.marks);
+        line
+    };
+    [0, 3, 1, 1, 500, 479, 448, 447].map(step).to_vec()
 }
 
 /// Every V from 0 to 600 against every N: too long for a file.
@@ -99,4 +167,20 @@ fn chain() -> Vec<String> {
         line
     };
     (0..500).map(step).collect()
+}
+
+#[cfg(test)]
+mod tests {
+    use super::*;
+    use crate::call;
+
+    #[test]
+    fn the_steps_of_walk_are_those_of_document_01() {
+        let answers = walk().into_iter().map(|line| call::answer(line.as_bytes()).unwrap());
+        let numbers: Vec<String> =
+            answers.map(|answer| answer.split(' ').take(3).collect::<Vec<_>>().join(" ")).collect();
+        let expected =
+            ["0 0 1", "0 3 4", "0 1 4", "11 1 4", "9 0 4", "0 479 480", "0 448 480", "0 959 960"];
+        assert_eq!(numbers, expected);
+    }
 }

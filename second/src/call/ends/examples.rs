@@ -1,14 +1,21 @@
-//! Document 01's examples of the link, and the recorded traffic of the vector files.
+//! Document 01's examples of the link, and the recorded traffic of the vector files; beside the
+//! short ones some that are spoiled.
 
-use super::{payload, seal_line, sender};
-use crate::cases::KEY;
+use super::{seal_line, sender_at};
+use crate::call::headers::payload;
+use crate::cases::{spoiled, KEY};
 use crate::link::frame::HEADER_OCTETS;
-use crate::link::numbering;
 use crate::link::states::{Link, Sender};
+use crate::random::Random;
 use crate::vectors::{self, Recorded};
 
 pub fn lines() -> Vec<String> {
-    [inputs(), numbers(), walk(), sizes(), recorded()].concat()
+    let mut random = Random::seeded(10);
+    let mut lines = [inputs(), sizes(), recorded()].concat();
+    for line in lines.clone().iter().filter(|line| line.len() < 200) {
+        lines.extend((0..12).map(|_| spoiled(line, &mut random)));
+    }
+    lines
 }
 
 /// P1 to P4: zero octets are sealed into the keystream that GEA4 gives for the INPUT.
@@ -30,27 +37,9 @@ fn inputs() -> Vec<String> {
     lines
 }
 
-/// P9 to P11, and the start of all numbering.
-fn numbers() -> Vec<String> {
-    let lines = ["start", "number 4 0xD 500", "number 480 1 448", "number 480 1 447"];
-    lines.map(str::to_string).to_vec()
-}
-
-/// The example of `walk`, each step with the state that the last one left.
-fn walk() -> Vec<String> {
-    let (mut next, mut marks) = (0, 0);
-    let step = |n: u32| {
-        let line = format!("number {next} {marks} {n}");
-        let numbered = numbering::number(next, marks, n);
-        (next, marks) = (numbered.next, numbered.marks);
-        line
-    };
-    [0, 3, 1, 1, 500, 479, 448, 447].map(step).to_vec()
-}
-
 /// "Payload 1,520 seals into 1,526 octets; 1,521 and 0 give 3."
 fn sizes() -> Vec<String> {
-    [1_520, 1_521, 0].map(|size| seal_line(sender(0), &payload(size), 1_530)).to_vec()
+    [1_520, 1_521, 0].map(|size| seal_line(sender_at(0), &payload(size), 1_530)).to_vec()
 }
 
 /// The recorded frames: zero octets are sealed into the published keystream.
@@ -95,17 +84,5 @@ mod tests {
         for (answer, published) in answers(&recorded()).iter().zip(published) {
             assert_eq!(last_field(answer)[12..], hex(&published.keystream));
         }
-    }
-
-    #[test]
-    fn the_steps_of_walk_are_those_of_document_01() {
-        let steps = answers(&walk());
-        let numbers: Vec<String> = steps
-            .iter()
-            .map(|answer| answer.split(' ').take(3).collect::<Vec<_>>().join(" "))
-            .collect();
-        let expected =
-            ["0 0 1", "0 3 4", "0 1 4", "11 1 4", "9 0 4", "0 479 480", "0 448 480", "0 959 960"];
-        assert_eq!(numbers, expected);
     }
 }

@@ -1,8 +1,8 @@
-//! The product's calls below the link: refusals in their order, results at the front of
-//! lent octets.
+//! The product's ciphers and keystreams, and the key that they take: refusals in their order,
+//! results at the front of lent octets.
 //! Follows document 01, "KGCORE and the three keystreams" and "Refusal numbers".
 
-use crate::bits::{of_number, of_octets, to_number, to_octets, Bits};
+use crate::bits::{of_number, of_octets, to_number, Bits};
 use crate::kasumi;
 use crate::keystreams::{self, ECSD_BLOCK_BITS, GSM_BLOCK_BITS};
 use crate::kgcore::{self, Inputs};
@@ -22,6 +22,12 @@ pub struct Numbers {
     pub cd: u8,
     pub ce: u16,
     pub cl: u32,
+}
+
+/// The 16 octets that a key yields, or zeros where it is refused.
+pub fn prepare_key(key: &[u8]) -> (u8, [u8; 16]) {
+    let refusal = first(&[(KEY, bad_key(key))]);
+    (refusal, key.try_into().unwrap_or_default())
 }
 
 pub fn kasumi(key: &[u8], block: u64) -> (u8, u64) {
@@ -100,28 +106,6 @@ pub fn gea4(key: &[u8], input: u32, direction: u8, m: u32, output: &mut [u8]) ->
     refusal
 }
 
-/// The `length` bits from bit `start` of the source; bits past its end are zero.
-pub fn cut(source: &[u8], start: u32, length: u32, output: &mut [u8]) -> u8 {
-    let refusal = first(&[(ROOM, short(output, length.into()))]);
-    if refusal == NONE {
-        let beyond = std::iter::repeat(false);
-        let bits = of_octets(source).into_iter().skip(start as usize).chain(beyond);
-        put(&bits.take(length as usize).collect::<Bits>(), output);
-    }
-    refusal
-}
-
-/// The octets that hold so many bits.
-pub fn size(bits: u32) -> u32 {
-    bits.div_ceil(8)
-}
-
-/// The octet with all but its first `count` bits cleared.
-pub fn first_bits(octet: u8, count: u32) -> u8 {
-    let kept: Bits = of_number(octet.into(), 8).into_iter().take(count as usize).collect();
-    to_octets(&kept).first().copied().unwrap_or(0)
-}
-
 #[cfg(test)]
 mod tests {
     use super::*;
@@ -134,23 +118,12 @@ mod tests {
     }
 
     #[test]
-    fn octets_past_the_result_are_kept() {
-        let mut output = [0xAA; 3];
-        assert_eq!(cut(&[0xFF], 4, 9, &mut output), NONE);
-        assert_eq!(output, [0xF0, 0x00, 0xAA]);
-    }
-
-    #[test]
-    fn the_cut_of_any_length_ends() {
-        assert_eq!(cut(&[0xFF], u32::MAX, u32::MAX, &mut [0; 8]), ROOM);
-        assert_eq!(cut(&[0xFF], u32::MAX, 0, &mut []), NONE);
-    }
-
-    #[test]
-    fn the_first_bits_are_the_highest() {
-        let kept = [0, 1, 7, 8, 9, u32::MAX].map(|count| first_bits(0xFF, count));
-        assert_eq!(kept, [0x00, 0x80, 0xFE, 0xFF, 0xFF, 0xFF]);
-        assert_eq!([0, 1, 8, 9, 114, u32::MAX].map(size), [0, 1, 1, 2, 15, 536_870_912]);
+    fn a_key_of_16_octets_is_its_own_preparation() {
+        let key = std::array::from_fn(|place| place as u8);
+        assert_eq!(prepare_key(&key), (NONE, key));
+        for octets in [0, 8, 15, 17, 32] {
+            assert_eq!(prepare_key(&vec![7; octets]), (KEY, [0; 16]));
+        }
     }
 
     #[test]

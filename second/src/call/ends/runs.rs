@@ -1,7 +1,8 @@
 //! Random runs of a sender and a receiver over a bad link: frames are lost, repeated and
 //! reordered. A line carries the state that the last call of its end returned.
 
-use super::{arising, open_line, seal_line, FULL};
+use super::{open_line, seal_line};
+use crate::call::numbers::{arising, FULL};
 use crate::link::ends::{open, seal, Answer};
 use crate::link::states::{Link, Receiver, Sender};
 use crate::random::Random;

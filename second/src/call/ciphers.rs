@@ -1,18 +1,77 @@
-//! The test input for the program `call`: the vectors, document 01's examples,
-//! edges, every refusal alone and with others, bad lines, random lines; then the link's and
-//! those of texts.
+//! The lines of the ciphers and the keystreams, and lines to try them with: published vectors,
+//! document 01's examples, edges, every refusal alone and with others, random lines.
 
-use super::{call_forms, ended, link, published, spoiled, text, KEY, SIZES};
+use super::form::{handed_out, lent, number, octets_field, shown};
+use super::Subject;
+use crate::cases::{published, spoiled, KEY, SIZES};
+use crate::product::ciphers::{self, Numbers};
 use crate::random::Random;
 use crate::vectors;
+
+pub const SUBJECT: Subject = Subject {
+    forms: &[
+        "prepare_key KEY -> 0 1",
+        "kasumi KEY BLOCK:u64 -> 0 1",
+        "kgcore KEY CA:u8 CB:u8 CC:u32 CD:u8 CE:u16 CL:u32 ROOM:size -> 0 1 2 3 4",
+        "gsm KEY COUNT:u32 ROOM1:size ROOM2:size -> 0 1 2 4",
+        "ecsd KEY COUNT:u32 ROOM1:size ROOM2:size -> 0 1 2 4",
+        "gea4 KEY INPUT:u32 DIRECTION:u8 M:u32 ROOM:size -> 0 1 2 3 4",
+    ],
+    answer,
+    cases,
+};
+
+fn answer(fields: &[&[u8]]) -> Option<String> {
+    match *fields {
+        [b"prepare_key", key] => {
+            let (refusal, key) = ciphers::prepare_key(&octets_field(key)?);
+            Some(format!("{refusal} {}", shown(&key)))
+        }
+        [b"kasumi", key, block] => {
+            let (refusal, block) = ciphers::kasumi(&octets_field(key)?, number(block)?);
+            Some(format!("{refusal} {block:016X}"))
+        }
+        [b"kgcore", key, ca, cb, cc, cd, ce, cl, room] => {
+            let numbers = Numbers {
+                ca: number(ca)?,
+                cb: number(cb)?,
+                cc: number(cc)?,
+                cd: number(cd)?,
+                ce: number(ce)?,
+                cl: number(cl)?,
+            };
+            let (key, mut output) = (octets_field(key)?, lent(room)?);
+            let refusal = ciphers::kgcore(&key, &numbers, &mut output);
+            Some(handed_out(refusal, &[output]))
+        }
+        [b"gsm", key, count, room1, room2] => a5(ciphers::gsm, key, count, room1, room2),
+        [b"ecsd", key, count, room1, room2] => a5(ciphers::ecsd, key, count, room1, room2),
+        [b"gea4", key, input, direction, m, room] => {
+            let (key, mut output) = (octets_field(key)?, lent(room)?);
+            let (input, direction, m) = (number(input)?, number(direction)?, number(m)?);
+            let refusal = ciphers::gea4(&key, input, direction, m, &mut output);
+            Some(handed_out(refusal, &[output]))
+        }
+        _ => None,
+    }
+}
+
+fn a5(
+    call: fn(&[u8], u32, &mut [u8], &mut [u8]) -> u8,
+    key: &[u8],
+    count: &[u8],
+    room1: &[u8],
+    room2: &[u8],
+) -> Option<String> {
+    let (mut block1, mut block2) = (lent(room1)?, lent(room2)?);
+    let refusal = call(&octets_field(key)?, number(count)?, &mut block1, &mut block2);
+    Some(handed_out(refusal, &[block1, block2]))
+}
 
 /// A key that 1 refuses.
 const SHORT_KEY: &str = "000102030405060708090A0B0C0D0E";
 
-/// Some octets to cut from: as many as hold the 228 bits of GSM.
-const SOURCE: &str = "889EEAAF9ED1BA1ABBD8436232E45728D01AA89133DA73C11EAB68B7D8";
-
-pub fn input() -> String {
+fn cases() -> Vec<String> {
     let parts = [
         published_vectors(),
         examples(),
@@ -22,16 +81,10 @@ pub fn input() -> String {
         keys(),
         ranges(),
         single_bits(),
-        cuts(),
-        call_forms::good_forms(),
-        call_forms::bad_numbers(),
-        call_forms::bad_octets(),
-        call_forms::bad_lines(),
+        number_forms(),
         random_lines(),
-        link::lines(),
-        text::lines(),
     ];
-    ended(parts.concat())
+    parts.concat()
 }
 
 fn published_vectors() -> Vec<String> {
@@ -120,6 +173,7 @@ fn keys() -> Vec<String> {
     let mut lines = Vec::new();
     for octets in [0, 1, 8, 15, 16, 17, 32, 2048] {
         let key = if octets == 0 { "-".to_string() } else { "5A".repeat(octets) };
+        lines.push(format!("prepare_key {key}"));
         lines.push(format!("kasumi {key} 0x0123456789ABCDEF"));
         lines.push(format!("kgcore {key} 1 2 3 0 4 64 8"));
         lines.push(format!("gsm {key} 5 15 15"));
@@ -171,35 +225,13 @@ fn single_bits() -> Vec<String> {
     lines
 }
 
-/// Cuts at every bit of an octet and at the places that A5/4 uses, within the source,
-/// over its end and behind it.
-fn cuts() -> Vec<String> {
-    let cut = |source: &str, start: u32, length: u32, room: u32| {
-        format!("cut {source} {start} {length} {room}")
-    };
-    let mut lines = Vec::new();
-    for start in 0..18 {
-        lines.extend((0..19).map(|length| cut(SOURCE, start, length, 3)));
-    }
-    for start in [0, 1, 113, 114, 115, 119, 120, 227, 228, 231, 232, 233, 240, u32::MAX] {
-        lines.extend(
-            [1, 8, 9, 113, 114, 115, 232, 348].map(|length| cut(SOURCE, start, length, 44)),
-        );
-    }
-    for start in [0, 7, 8, u32::MAX - 7, u32::MAX] {
-        lines.extend([0, 1, 8].map(|length| cut("-", start, length, 1)));
-        lines.push(cut("FF", start, u32::MAX, 40));
-        lines.push(cut("FF", start, u32::MAX - 7, 40));
-        lines.push(cut("FF", start, u32::MAX - 8, 40));
-    }
-    for length in SIZES {
-        let octets = length.div_ceil(8) as u32;
-        lines.extend(
-            [octets, octets - 1, octets + 1, octets + 40]
-                .map(|room| cut(SOURCE, 114, length as u32, room)),
-        );
-    }
-    lines.push(cut(&"C3".repeat(2048), 3, 16_381, 2050));
+/// The forms of numbers above one digit, and of the largest.
+fn number_forms() -> Vec<String> {
+    let tens = ["10", "0010", "0000000010", "0xa", "0xA", "0x0A", "0x000000000000000a"];
+    let mut lines =
+        tens.map(|ten| format!("kgcore {KEY} {ten} {ten} {ten} 1 {ten} {ten} {ten}")).to_vec();
+    let blocks = ["4294967296", "9999999999", "0xfedcba9876543210", "0xFFFFFFFFFFFFFFFF"];
+    lines.extend(blocks.map(|block| format!("kasumi {KEY} {block}")));
     lines
 }
 
@@ -218,7 +250,7 @@ fn random_line(random: &mut Random) -> String {
     let key = random.digits(key_octets);
     let word = random.number() as u32;
     let bit = random.one_of(&[0, 0, 0, 1, 1, 1, 1, 2]);
-    match random.below(6) {
+    match random.below(5) {
         0 => format!("kasumi {key} 0x{:x}", random.number()),
         1 => {
             let (ca, cb, ce) = (random.octet(), random.below(33), random.below(65_536));
@@ -232,15 +264,9 @@ fn random_line(random: &mut Random) -> String {
             let (room1, room2) = (random_room(exact, random), random_room(exact, random));
             format!("{name} {key} {count} {room1} {room2}")
         }
-        4 => {
+        _ => {
             let m = random.below(200);
             format!("gea4 {key} 0x{word:08X} {bit} {m} {}", random_room(m, random))
-        }
-        _ => {
-            let octets = 1 + random.below(60);
-            let (start, length) = (random.below(8 * octets + 20), random.below(300));
-            let room = random_room(length.div_ceil(8), random);
-            format!("cut {} {start} {length} {room}", random.digits(octets))
         }
     }
 }
@@ -252,45 +278,29 @@ fn random_room(needed: usize, random: &mut Random) -> usize {
 
 #[cfg(test)]
 mod tests {
-    use crate::{call, lines};
+    use crate::call;
+
+    fn answer_to(line: &str) -> String {
+        call::answer(line.as_bytes()).unwrap_or("?".to_string())
+    }
 
     #[test]
-    fn every_refusal_of_every_call_is_met() {
-        let input = super::input();
-        let output = lines::answers(input.as_bytes(), call::answer);
-        let meets = |name: &str, refusal: &str| {
-            input.split('\n').zip(output.lines()).any(|(line, answer)| {
-                line.starts_with(&format!("{name} ")) && answer.split(' ').next() == Some(refusal)
-            })
-        };
-        let refusals = [
-            ("kasumi", vec!["0", "1", "?"]),
-            ("kgcore", vec!["0", "1", "2", "3", "4", "?"]),
-            ("gsm", vec!["0", "1", "2", "4", "?"]),
-            ("ecsd", vec!["0", "1", "2", "4", "?"]),
-            ("gea4", vec!["0", "1", "2", "3", "4", "?"]),
-            ("cut", vec!["0", "4", "?"]),
-            ("look", vec!["0", "5", "6", "7", "?"]),
-            ("put_header", vec!["0", "2", "3", "4", "?"]),
-            ("open_sender", vec!["0", "1", "2", "?"]),
-            ("open_receiver", vec!["0", "1", "2", "?"]),
-            ("seal", vec!["0", "12", "3", "10", "4", "?"]),
-            ("open", vec!["0", "12", "5", "6", "7", "8", "9", "10", "11", "4", "?"]),
-            ("number", vec!["0", "12", "2", "9", "10", "11", "?"]),
-            ("decimal", vec!["0", "2", "?"]),
-            ("hexadecimal", vec!["0", "2", "?"]),
-            ("octets_of_hex", vec!["0", "2", "4", "?"]),
-            ("hex_of_octets", vec!["0", "4", "?"]),
-            ("decimal_of_number", vec!["0", "4", "?"]),
-            ("put_text", vec!["0", "4", "?"]),
-            ("requests_hear", vec!["0", "4", "?"]),
-            ("requests_finish", vec!["0", "4", "?"]),
-            ("walks_header", vec!["0", "4", "?"]),
-            ("walks_hear", vec!["0", "4", "?"]),
-            ("walks_finish", vec!["0", "4", "?"]),
-        ];
-        for (name, numbers) in refusals {
-            assert!(numbers.iter().all(|number| meets(name, number)), "{name}");
+    fn every_octet_of_a_lent_buffer_is_shown() {
+        assert_eq!(answer_to("kasumi 00 0"), "1 0000000000000000");
+        assert_eq!(answer_to("gsm - 4194304 1 0"), "1 AA -");
+        let key = "000102030405060708090A0B0C0D0E0F";
+        assert_eq!(answer_to(&format!("prepare_key {key}")), format!("0 {key}"));
+        assert_eq!(answer_to(&format!("prepare_key {key}00")), format!("1 {}", "00".repeat(16)));
+    }
+
+    #[test]
+    fn the_type_of_a_parameter_bounds_its_number() {
+        let kgcore = |ca: &str| answer_to(&format!("kgcore - {ca} 0 0 0 0 1 0"));
+        assert_eq!(kgcore("255"), "1 -");
+        assert_eq!(kgcore("0x00000000000000ff"), "1 -");
+        assert_eq!(kgcore("0000000255"), "1 -");
+        for bad in ["256", "0x100", "00000000255", "0x000000000000000ff", "0Xff", "0x", "-1"] {
+            assert_eq!(kgcore(bad), "?");
         }
     }
 }

@@ -1,7 +1,9 @@
 //! Sealing and opening with every set of causes that can meet, so that the order of the
 //! refusals shows, and with every kind of state that cannot arise.
 
-use super::{open_line, payload, receiver, seal_line, sealed, sender, FULL, LINK};
+use super::{open_line, receiver_at, seal_line, sealed, sender_at, LINK};
+use crate::call::headers::payload;
+use crate::call::numbers::FULL;
 use crate::link::frame::framed;
 use crate::link::states::{Link, Receiver, Sender};
 
@@ -53,7 +55,7 @@ fn refused_opens() -> Vec<String> {
                 other: has(4),
                 room: has(5),
             };
-            lines.push(refused_open(receiver(next, marks), n, &causes));
+            lines.push(refused_open(receiver_at(next, marks), n, &causes));
         }
     }
     lines
@@ -112,8 +114,8 @@ fn receiver_states() -> Vec<String> {
     ];
     let mut lines = Vec::new();
     for (next, marks) in states {
-        let frame = sealed(sender(next.min(FULL - 1)), &payload(2));
-        lines.extend(marks.iter().map(|&marks| open_line(receiver(next, marks), &frame, 3)));
+        let frame = sealed(sender_at(next.min(FULL - 1)), &payload(2));
+        lines.extend(marks.iter().map(|&marks| open_line(receiver_at(next, marks), &frame, 3)));
     }
     for link in links() {
         for (next, marks) in [(0, 0), (600, 1), (600, 0), (FULL + 1, 1)] {

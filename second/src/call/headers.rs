@@ -1,20 +1,53 @@
-//! Frames good and bad: the look at them, their headers, and damaged ones that are opened.
+//! The lines of the bench frame, and lines to try them with: frames good and bad, headers written.
 
-use super::{open_line, payload, receiver, sealed, sender};
-use crate::call::form::shown;
-use crate::link::frame::framed;
+use super::form::{handed_out, lent, number, octets_field, shown, size};
+use super::Subject;
+use crate::link::frame::{framed, header, look, look_refusal, put_header};
 
-pub fn lines() -> Vec<String> {
+pub const SUBJECT: Subject = Subject {
+    forms: &[
+        "look FRAME -> 0 5 6 7",
+        "header FRAME",
+        "put_header SAPI:u8 DIRECTION:u8 N:u32 SIZE:size ROOM:size -> 0 2 3 4",
+    ],
+    answer,
+    cases,
+};
+
+/// `look` answers REFUSAL PAYLOAD, `header` SAPI DIRECTION N.
+fn answer(fields: &[&[u8]]) -> Option<String> {
+    match *fields {
+        [b"look", frame] => {
+            let frame = octets_field(frame)?;
+            Some(format!("{} {}", look_refusal(&frame), shown(look(&frame))))
+        }
+        [b"header", frame] => {
+            let header = header(&octets_field(frame)?);
+            Some(format!("{} {} {}", header.sapi, header.direction, header.n))
+        }
+        [b"put_header", sapi, direction, n, payload, room] => {
+            let (sapi, direction, n) = (number(sapi)?, number(direction)?, number(n)?);
+            let mut output = lent(room)?;
+            let refusal = put_header(sapi, direction, n, size(payload)?, &mut output);
+            Some(handed_out(refusal, &[output]))
+        }
+        _ => None,
+    }
+}
+
+fn cases() -> Vec<String> {
     let mut frames = [sizes(), lengths(), versions(), spares(), meeting()].concat();
     frames.push(vec![0xFF; 2048]);
     let looks = frames.iter().flat_map(|frame| {
         let frame = shown(frame);
         [format!("look {frame}"), format!("header {frame}")]
     });
-    let mut lines: Vec<String> = looks.collect();
-    lines.extend(headers());
-    lines.extend(damaged());
-    lines
+    looks.chain(headers()).collect()
+}
+
+/// A payload in which neighbouring octets differ.
+pub fn payload(size: usize) -> Vec<u8> {
+    (0..size).map(|place| (29 * place + 1) as u8).collect()
 }
 
 /// A frame of two payload octets, to be spoiled.
@@ -116,24 +149,22 @@ fn headers() -> Vec<String> {
     lines
 }
 
-/// A sealed frame with each octet changed in turn, cut short at each, and with one more.
-fn damaged() -> Vec<String> {
-    let frame = sealed(sender(538), &payload(11));
-    let receiver = receiver(537, 0xFFFF_0F0F);
-    let mut frames: Vec<Vec<u8>> = Vec::new();
-    for place in 0..frame.len() {
-        for change in [0x01, 0x02, 0x10, 0x80, 0xFF] {
-            let mut damaged = frame.clone();
-            damaged[place] ^= change;
-            frames.push(damaged);
-        }
-        frames.push(frame[..place].to_vec());
-        let mut without = frame.clone();
-        without.remove(place);
-        frames.push(without);
+#[cfg(test)]
+mod tests {
+    use crate::call;
+
+    fn answer_to(line: &str) -> String {
+        call::answer(line.as_bytes()).unwrap_or("?".to_string())
     }
-    frames.push([frame.as_slice(), &[0]].concat());
-    frames.push([&[0], frame.as_slice()].concat());
-    frames.push(frame);
-    frames.iter().map(|frame| open_line(receiver, frame, 12)).collect()
+
+    #[test]
+    fn a_look_at_a_bad_frame_is_empty() {
+        assert_eq!(answer_to("look -"), "5 -");
+        assert_eq!(answer_to("look 00050031000055"), "6 -");
+        assert_eq!(answer_to("look 00050133000055"), "7 -");
+        assert_eq!(answer_to("look 00050131000055"), "0 55");
+        assert_eq!(answer_to("header 00050131001A55"), "3 1 26");
+        assert_eq!(answer_to("put_header 3 1 511 1520 7"), "0 05F4013101FFAA");
+        assert_eq!(answer_to("put_header 3 1 511 65601 7"), "?");
+    }
 }

@@ -1,0 +1,53 @@
+// The lines of the numbering.
+use crate::fields;
+use crate::fields::Cursor;
+use crate::states;
+use crate::tell;
+use crate::tell::Answer;
+
+pub(crate) fn answer(line: &[u8], name: &[u8], cursor: Cursor) -> Answer {
+    if check::same(name, b"start") {
+        return Answer::Told(start(line, cursor));
+    }
+    if check::same(name, b"is_good") {
+        return Answer::Told(is_good(line, cursor));
+    }
+    if check::same(name, b"number") {
+        return Answer::Told(number(line, cursor));
+    }
+    Answer::NotMine
+}
+
+// start
+fn start(line: &[u8], cursor: Cursor) -> bool {
+    if !fields::is_end(line, cursor) {
+        return tell::bad();
+    }
+    let numbering = numbering::start();
+    let told = tell::number(numbering.next as u64) & tell::next_number(numbering.marks as u64);
+    tell::line_end(told)
+}
+
+// is_good NEXT MARKS
+fn is_good(line: &[u8], cursor: Cursor) -> bool {
+    let read = states::numbering(line, cursor);
+    if !fields::is_end(line, read.next) {
+        return tell::bad();
+    }
+    let good = numbering::is_good(read.numbering);
+    tell::line_end(tell::number(good as u64))
+}
+
+// number NEXT MARKS N
+fn number(line: &[u8], cursor: Cursor) -> bool {
+    let read = states::numbering(line, cursor);
+    let sent = fields::number32(line, read.next);
+    if !fields::is_end(line, sent.next) {
+        return tell::bad();
+    }
+    let step = numbering::number(read.numbering, sent.value);
+    let told = tell::number(step.refusal as u64)
+        & tell::next_number(step.number as u64)
+        & states::tell_numbering(step.numbering);
+    tell::line_end(told)
+}

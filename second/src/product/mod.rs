@@ -1,0 +1,4 @@
+//! The product's calls below the link, one subject a file.
+
+pub mod ciphers;
+pub mod octets;
