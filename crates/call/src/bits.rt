@@ -14,6 +14,12 @@ pub(crate) fn answer(line: &[u8], name: &[u8], cursor: Cursor) -> Answer {
     if check::same(name, b"first_bits") {
         return Answer::Told(first_bits(line, cursor));
     }
+    if check::same(name, b"octet_or_zero") {
+        return Answer::Told(octet_or_zero(line, cursor));
+    }
+    if check::same(name, b"xor") {
+        return Answer::Told(xor(line, cursor));
+    }
     Answer::NotMine
 }
 
@@ -56,4 +62,39 @@ fn first_bits(line: &[u8], cursor: Cursor) -> bool {
     }
     let kept = octets::first_bits(octet.value, count.value as usize);
     tell::line_end(tell::number(kept as u64))
+}
+
+// octet_or_zero OCTETS PLACE
+fn octet_or_zero(line: &[u8], cursor: Cursor) -> bool {
+    let source = fields::octets(line, cursor);
+    let place = fields::number32(line, source.next);
+    if !fields::is_end(line, place.next) {
+        return tell::bad();
+    }
+    let octets = source.octets;
+    let count = source.count;
+    let octet = octets::octet_or_zero(&octets[..count], place.value as usize);
+    tell::line_end(tell::number(octet as u64))
+}
+
+// xor OCTETS STREAM ROOM
+fn xor(line: &[u8], cursor: Cursor) -> bool {
+    let source = fields::octets(line, cursor);
+    let stream = fields::octets(line, source.next);
+    let room = fields::room(line, stream.next);
+    if !room.ok {
+        return tell::bad();
+    }
+    let octets = source.octets;
+    let count = source.count;
+    let others = stream.octets;
+    let other_count = stream.count;
+    xor_call(&octets[..count], &others[..other_count], room.value)
+}
+
+fn xor_call(source: &[u8], stream: &[u8], room: usize) -> bool {
+    let mut output = fields::blank();
+    let size = fields::within(room, &output);
+    let refusal = octets::xor(source, stream, &mut output[..size]);
+    tell::lent(refusal, &output, room)
 }

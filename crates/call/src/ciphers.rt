@@ -13,6 +13,9 @@ pub(crate) fn answer(line: &[u8], name: &[u8], cursor: Cursor) -> Answer {
     if check::same(name, b"kgcore") {
         return Answer::Told(kgcore(line, cursor));
     }
+    if check::same(name, b"prepare_key") {
+        return Answer::Told(prepare_key(line, cursor));
+    }
     if check::same(name, b"gsm") {
         return Answer::Told(a5(line, cursor, Kind::Gsm));
     }
@@ -150,4 +153,17 @@ fn gea4_call(key: &[u8], input: u32, direction: u8, m: u32, room: usize) -> bool
     let size = fields::within(room, &output);
     let refusal = keystreams::gea4(key, input, direction, m, &mut output[..size]);
     tell::lent(refusal, &output, room)
+}
+
+// prepare_key KEY
+fn prepare_key(line: &[u8], cursor: Cursor) -> bool {
+    let key = fields::octets(line, cursor);
+    if !fields::is_end(line, key.next) {
+        return tell::bad();
+    }
+    let octets = key.octets;
+    let count = key.count;
+    let prepared = keystreams::prepare_key(&octets[..count]);
+    let yielded = prepared.key;
+    tell::part(prepared.refusal, &yielded)
 }

@@ -4,8 +4,8 @@ use crate::fields::Cursor;
 use crate::states;
 use crate::tell;
 use crate::tell::Answer;
-use link::Receiver;
-use link::Sender;
+use receiver::Receiver;
+use sender::Sender;
 
 pub(crate) fn answer(line: &[u8], name: &[u8], cursor: Cursor) -> Answer {
     if check::same(name, b"open_sender") {
@@ -46,13 +46,13 @@ fn open_end(line: &[u8], cursor: Cursor, end: End) -> bool {
 }
 
 fn open_sender(key: &[u8], iov: u32, sapi: u8, direction: u8) -> bool {
-    let opened = link::open_sender(key, iov, sapi, direction);
+    let opened = sender::open_sender(key, iov, sapi, direction);
     let told = tell::number(opened.refusal as u64) & states::tell_sender(opened.sender);
     tell::line_end(told)
 }
 
 fn open_receiver(key: &[u8], iov: u32, sapi: u8, direction: u8) -> bool {
-    let opened = link::open_receiver(key, iov, sapi, direction);
+    let opened = receiver::open_receiver(key, iov, sapi, direction);
     let told = tell::number(opened.refusal as u64) & states::tell_receiver(opened.receiver);
     tell::line_end(told)
 }
@@ -73,7 +73,7 @@ fn seal(line: &[u8], cursor: Cursor) -> bool {
 fn seal_call(sender: Sender, payload: &[u8], room: usize) -> bool {
     let mut output = fields::blank();
     let size = fields::within(room, &output);
-    let sealed = link::seal(sender, payload, &mut output[..size]);
+    let sealed = sender::seal(sender, payload, &mut output[..size]);
     let told = tell::outcome(sealed.refusal, sealed.number, sealed.size)
         & states::tell_sender(sealed.sender)
         & tell::output(&output, room);
@@ -96,7 +96,7 @@ fn open(line: &[u8], cursor: Cursor) -> bool {
 fn open_call(receiver: Receiver, frame: &[u8], room: usize) -> bool {
     let mut output = fields::blank();
     let size = fields::within(room, &output);
-    let opened = link::open(receiver, frame, &mut output[..size]);
+    let opened = receiver::open(receiver, frame, &mut output[..size]);
     let told = tell::outcome(opened.refusal, opened.number, opened.size)
         & states::tell_receiver(opened.receiver)
         & tell::output(&output, room);

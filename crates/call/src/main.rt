@@ -4,6 +4,7 @@ mod ciphers;
 mod ends;
 mod fields;
 mod headers;
+mod links;
 mod numbers;
 mod states;
 mod tell;
@@ -29,6 +30,9 @@ fn answer(line: &[u8]) -> bool {
         return told;
     }
     if let Answer::Told(told) = headers::answer(line, name, cursor) {
+        return told;
+    }
+    if let Answer::Told(told) = links::answer(line, name, cursor) {
         return told;
     }
     if let Answer::Told(told) = ends::answer(line, name, cursor) {

@@ -9,8 +9,8 @@ pub(crate) fn answer(line: &[u8], name: &[u8], cursor: Cursor) -> Answer {
     if check::same(name, b"start") {
         return Answer::Told(start(line, cursor));
     }
-    if check::same(name, b"is_good") {
-        return Answer::Told(is_good(line, cursor));
+    if check::same(name, b"numbering_can_arise") {
+        return Answer::Told(can_arise(line, cursor));
     }
     if check::same(name, b"number") {
         return Answer::Told(number(line, cursor));
@@ -28,14 +28,14 @@ fn start(line: &[u8], cursor: Cursor) -> bool {
     tell::line_end(told)
 }
 
-// is_good NEXT MARKS
-fn is_good(line: &[u8], cursor: Cursor) -> bool {
+// numbering_can_arise NEXT MARKS
+fn can_arise(line: &[u8], cursor: Cursor) -> bool {
     let read = states::numbering(line, cursor);
     if !fields::is_end(line, read.next) {
         return tell::bad();
     }
-    let good = numbering::is_good(read.numbering);
-    tell::line_end(tell::number(good as u64))
+    let arises = numbering::can_arise(read.numbering);
+    tell::line_end(tell::number(arises as u64))
 }
 
 // number NEXT MARKS N

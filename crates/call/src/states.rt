@@ -3,9 +3,9 @@ use crate::fields;
 use crate::fields::Cursor;
 use crate::tell;
 use link::Link;
-use link::Receiver;
-use link::Sender;
 use numbering::Numbering;
+use receiver::Receiver;
+use sender::Sender;
 
 // The 16 octets of a key; a state has no other.
 struct KeyField {
@@ -13,9 +13,9 @@ struct KeyField {
     next: Cursor,
 }
 
-struct LinkField {
-    link: Link,
-    next: Cursor,
+pub(crate) struct LinkField {
+    pub link: Link,
+    pub next: Cursor,
 }
 
 pub(crate) struct NumberingField {
@@ -49,7 +49,7 @@ fn key(line: &[u8], cursor: Cursor) -> KeyField {
 }
 
 // KEY IOV SAPI DIRECTION
-fn link(line: &[u8], cursor: Cursor) -> LinkField {
+pub(crate) fn link(line: &[u8], cursor: Cursor) -> LinkField {
     let key = key(line, cursor);
     let iov = fields::number32(line, key.next);
     let sapi = fields::number8(line, iov.next);
@@ -67,7 +67,7 @@ fn link(line: &[u8], cursor: Cursor) -> LinkField {
     }
 }
 
-fn tell_link(link: Link) -> bool {
+pub(crate) fn tell_link(link: Link) -> bool {
     let key = link.key;
     tell::buffer(&key)
         & tell::next_number(link.iov as u64)

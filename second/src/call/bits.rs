@@ -11,6 +11,7 @@ pub const SUBJECT: Subject = Subject {
         "cut OCTETS START:u32 LENGTH:u32 ROOM:size -> 0 4",
         "size BITS:u32",
         "first_bits OCTET:u8 COUNT:u32",
+        "octet_or_zero OCTETS PLACE:u32",
         "xor OCTETS OCTETS ROOM:size -> 0 4",
     ],
     answer,
@@ -27,6 +28,10 @@ fn answer(fields: &[&[u8]]) -> Option<String> {
         [b"size", bits] => Some(octets::size(number(bits)?).to_string()),
         [b"first_bits", octet, count] => {
             Some(octets::first_bits(number(octet)?, number(count)?).to_string())
+        }
+        [b"octet_or_zero", source, place] => {
+            let (source, place) = (octets_field(source)?, number::<u32>(place)?);
+            Some(octets::octet_or_zero(&source, place as usize).to_string())
         }
         [b"xor", one, other, room] => {
             let (one, other) = (octets_field(one)?, octets_field(other)?);
@@ -101,6 +106,10 @@ fn sizes() -> Vec<String> {
     for octet in [0x00, 0x01, 0x55, 0x80, 0xA5, 0xFE, 0xFF] {
         let counts = (0..=9).chain([31, 32, 33, 255, 256, 257, u32::MAX]);
         lines.extend(counts.map(|count| format!("first_bits {octet} {count}")));
+    }
+    for source in ["-", "C3", "00FF", SOURCE] {
+        lines.extend((0..31).map(|place| format!("octet_or_zero {source} {place}")));
+        lines.push(format!("octet_or_zero {source} {}", u32::MAX));
     }
     lines
 }

@@ -14,6 +14,7 @@ mod ends;
 pub mod form;
 mod forms;
 mod headers;
+mod links;
 mod numbers;
 
 use crate::cases::ended;
@@ -33,11 +34,14 @@ struct Subject {
     cases: fn() -> Vec<String>,
 }
 
-const SUBJECTS: [Subject; 5] =
-    [ciphers::SUBJECT, bits::SUBJECT, numbers::SUBJECT, headers::SUBJECT, ends::SUBJECT];
-
-/// Calls that the product has not yet: their lines are left out of the test input.
-const NOT_YET: &[&str] = &["xor", "prepare_key"];
+const SUBJECTS: [Subject; 6] = [
+    ciphers::SUBJECT,
+    bits::SUBJECT,
+    numbers::SUBJECT,
+    headers::SUBJECT,
+    links::SUBJECT,
+    ends::SUBJECT,
+];
 
 /// The answer to a line, or nothing for a line that is not of the form.
 pub fn answer(line: &[u8]) -> Option<String> {
@@ -50,9 +54,7 @@ pub fn answer(line: &[u8]) -> Option<String> {
 
 /// The test input.
 pub fn input() -> String {
-    let mut lines = lines();
-    lines.retain(|line| !NOT_YET.contains(&line.split(' ').next().unwrap_or_default()));
-    ended(lines)
+    ended(lines())
 }
 
 /// A second one: every V from 0 to 600 against every N.

@@ -9,7 +9,7 @@ use crate::random::Random;
 pub const SUBJECT: Subject = Subject {
     forms: &[
         "start",
-        "is_good NEXT:u32 MARKS:u32",
+        "numbering_can_arise NEXT:u32 MARKS:u32",
         "number NEXT:u32 MARKS:u32 N:u32 -> 0 2 9 10 11 12",
     ],
     answer,
@@ -23,7 +23,7 @@ fn answer(fields: &[&[u8]]) -> Option<String> {
             let history = History::new();
             Some(format!("{} {}", history.next(), history.marks()))
         }
-        [b"is_good", next, marks] => {
+        [b"numbering_can_arise", next, marks] => {
             let arises = History::of_state(number_field(next)?, number_field(marks)?).is_some();
             Some(u8::from(arises).to_string())
         }
@@ -130,7 +130,7 @@ fn states() -> Vec<String> {
         let mut marks = vec![0, 2, 0xFFFF_FFFE, u32::MAX, arising(next, u32::MAX)];
         marks.extend((0..32).map(|k| 1 | 1u32 << k));
         lines.extend(marks.iter().map(|marks| line(next, *marks, next % 512)));
-        lines.extend(marks.iter().map(|marks| format!("is_good {next} {marks}")));
+        lines.extend(marks.iter().map(|marks| format!("numbering_can_arise {next} {marks}")));
     }
     lines.extend((0..32).map(|k| line(0, 1 << k, 0)));
     lines.extend((1..32).map(|next| line(next, 1 | 1 << (next - 1), next)));

@@ -77,6 +77,19 @@ pub fn open(receiver: Receiver, frame: &[u8], output: &mut [u8]) -> Answer<Recei
     }
 }
 
+/// A payload, ciphered or deciphered as that of a number, at the front of lent octets.
+pub fn cipher(link: Link, number: u32, payload: &[u8], output: &mut [u8]) -> u8 {
+    let refusal = first(&[
+        (STATE, link.cannot_arise()),
+        (SIZE, frame::bad_size(payload.len())),
+        (ROOM, short(output, 8 * payload.len() as u64)),
+    ]);
+    if refusal == NONE {
+        output[..payload.len()].copy_from_slice(&xored(&link, number, payload));
+    }
+    refusal
+}
+
 /// A payload xored with the GEA4 output of its frame: sealing and opening alike.
 fn xored(link: &Link, number: u32, payload: &[u8]) -> Vec<u8> {
     let input = super::input(link.iov, link.sapi, number);

@@ -42,7 +42,7 @@ pub fn open_receiver(key: &[u8], iov: u32, sapi: u8, direction: u8) -> (u8, Rece
     (refusal, Receiver { link, next: 0, marks: 0 })
 }
 
-fn open_link(key: &[u8], iov: u32, sapi: u8, direction: u8) -> (u8, Link) {
+pub fn open_link(key: &[u8], iov: u32, sapi: u8, direction: u8) -> (u8, Link) {
     let refusal =
         first(&[(KEY, bad_key(key)), (RANGE, sapi > LAST_SAPI || direction > LAST_DIRECTION)]);
     let link = match <[u8; 16]>::try_from(key) {
@@ -54,7 +54,7 @@ fn open_link(key: &[u8], iov: u32, sapi: u8, direction: u8) -> (u8, Link) {
 
 impl Link {
     /// 12: SAPI or direction out of range.
-    fn cannot_arise(&self) -> bool {
+    pub fn cannot_arise(&self) -> bool {
         self.sapi > LAST_SAPI || self.direction > LAST_DIRECTION
     }
 }

@@ -25,7 +25,8 @@ pub const SUBJECT: Subject = Subject {
 };
 
 /// The fields of the states in a form.
-pub const STATES: [(&str, &str); 2] = [
+pub const STATES: [(&str, &str); 3] = [
+    ("LINK", "KEY:key IOV:u32 SAPI:u8 DIRECTION:u8"),
     ("SENDER", "KEY:key IOV:u32 SAPI:u8 DIRECTION:u8 NEXT:u32"),
     ("RECEIVER", "KEY:key IOV:u32 SAPI:u8 DIRECTION:u8 NEXT:u32 MARKS:u32"),
 ];
@@ -56,7 +57,7 @@ fn answer(fields: &[&[u8]]) -> Option<String> {
     }
 }
 
-fn opened<State: Display>(
+pub fn opened<State: Display>(
     call: fn(&[u8], u32, u8, u8) -> (u8, State),
     key: &[u8],
     iov: &[u8],
@@ -69,7 +70,7 @@ fn opened<State: Display>(
 }
 
 /// The key of a state is an array of 16 octets, so that another length has no form.
-fn link(key: &[u8], iov: &[u8], sapi: &[u8], direction: &[u8]) -> Option<Link> {
+pub fn link(key: &[u8], iov: &[u8], sapi: &[u8], direction: &[u8]) -> Option<Link> {
     let key = octets_field(key)?.try_into().ok()?;
     Some(Link { key, iov: number(iov)?, sapi: number(sapi)?, direction: number(direction)? })
 }

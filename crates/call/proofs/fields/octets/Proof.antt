@@ -2,7 +2,7 @@
 -- Assumes nothing.
 use borrow.Author.Needs.{needs}
 use Rattle.io.proofs.Counting.{counts}
-use Rattle.lines.proofs.Within.{put-within}
+use Rattle.lines.proofs.Callers.{put-within}
 use Rattle.call.proofs.fields.octets.Statement.{statement}
 use Rattle.call.proofs.fields.octets.Tie as tie
 
@@ -31,7 +31,7 @@ octets-of-hex-requires : tie.Need-octets-of-hex-requires
 octets-of-hex-requires c κs = search needs
 
 returns : tie.Need-returns
-returns c = counts _ _ (put-within (c .before .before .before .octets-of-hex .ensures))
+returns c = counts _ _ (put-within _ _ _ (c .before .before .before .octets-of-hex .ensures))
 
 pub octets-spec : {M : Type 1} → statement M
 octets-spec =

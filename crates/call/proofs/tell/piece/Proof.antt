@@ -3,7 +3,7 @@
 use borrow.Author.Needs.{needs}
 use lib.Seq.{length-take-le}
 use mathlib.Core.Path.{sym}
-use Rattle.lines.proofs.Within.{put-within}
+use Rattle.lines.proofs.Callers.{put-within}
 use Rattle.call.proofs.tell.piece.Statement.{statement}
 use Rattle.call.proofs.tell.piece.Tie as tie
 
@@ -14,10 +14,10 @@ hex-of-octets-requires : tie.Need-hex-of-octets-requires
 hex-of-octets-requires c κs = search needs
 
 array-share-prefix-text : tie.Need-array-share-prefix-text
-array-share-prefix-text c = put-within (c .before .hex-of-octets .ensures)
+array-share-prefix-text c = put-within _ _ _ (c .before .hex-of-octets .ensures)
 
 slice-aggregate-write-all : tie.Need-slice-aggregate-write-all
-slice-aggregate-write-all c = sym (length-take-le _ _ (put-within (c .before .before .hex-of-octets .ensures)))
+slice-aggregate-write-all c = sym (length-take-le _ _ (put-within _ _ _ (c .before .before .hex-of-octets .ensures)))
 
 write-all-requires : tie.Need-write-all-requires
 write-all-requires c κs = search needs
