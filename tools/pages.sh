@@ -1,8 +1,9 @@
 #!/usr/bin/env bash
 # Fails when a page names a file or a name that does not exist, or leads to a heading that does not; when docs/USING.md does not show the files of the
-# crate `using` as they are; when docs/CALLS.md or the list that promises 1 and 2 speak of do not have exactly the public calls; when the lines of `call`
-# on docs/CALLS.md are not those of the library's calls; when docs/ARCHITECTURE.md does not say what crates.txt says; or when a public function has a
-# `requires`.
+# crate `using` as they are; when docs/CALLS.md or the list that promises 1 and 2 speak of do not have exactly the public calls, or the lines of `call`
+# on docs/CALLS.md are not those of the library's; when the contract of a public call does not cite its entry of that list, or leaves out something that
+# the call gives back; when docs/ARCHITECTURE.md does not say what crates.txt says; when docs/PROMISES.md calls a changed statement a wrong program; or
+# when a public function has a `requires`.
 # On the pages, `crate/folder/File.ext#name` is a name in a file under crates/, and `a/path.ext` a file.
 set -euo pipefail
 top=$(cd "$(dirname "$0")/.." && pwd -P)
@@ -57,25 +58,48 @@ listed=$(sed -nE 's/^\| `([a-z0-9_]+::[a-z0-9_]+)`.*/\1/p' docs/CALLS.md | sort)
 [ "$calls" = "$listed" ] || { fault 'docs/CALLS.md does not list exactly the public calls:'; diff <(echo "$listed") <(echo "$calls") >&2 || true; }
 
 # In that list a comment with the call's name stands before its entry.
-promised=$(sed -nE 's/^-- ([a-z0-9_]+::[a-z0-9_]+)$/\1/p' crates/promises/specs/Calls.antt | sort)
+promised=$(sed -nE 's/^ *-- ([a-z0-9_]+::[a-z0-9_]+)$/\1/p' crates/promises/specs/Calls.antt | sort)
 [ "$calls" = "$promised" ] || { fault 'the promises do not speak of exactly the public calls:'; diff <(echo "$promised") <(echo "$calls") >&2 || true; }
-# Each call is made in public_calls, which proves that it meets its entry.
-made=$(grep -hoE '^    [a-z0-9_]+::[a-z0-9_]+\(' crates/public_calls/src/*.rt | tr -d ' (' | sort)
-[ "$calls" = "$made" ] || { fault 'public_calls does not make exactly the public calls:'; diff <(echo "$made") <(echo "$calls") >&2 || true; }
-# Each entry is in the list.
-while IFS= read -r entry; do
-    sed -n '/^publicCalls =/,/^$/p' crates/promises/specs/Calls.antt | grep -qE "(^| )$entry( |\$)" || fault "$entry is not among the publicCalls"
-done < <(grep -A 1 -E '^-- [a-z0-9_]+::[a-z0-9_]+$' crates/promises/specs/Calls.antt | sed -nE 's/^abbrev pub ([A-Za-z0-9]+) :.*/\1/p')
 
-# The line of `call` that makes a call of the library bears its name, but for these. What only the programs are made of has none.
+# A public function up to its body: the signature and the contract.
+head_of() { awk -v name="pub fn ${1##*::}[(<]" '$0 ~ name { on = 1 } on && /^ *\{$/ { exit } on' "crates/${1%%::*}"/src/*.rt; }
+
+# Each contract cites the entry: that of a call by an answer to it, that of a function by an equation.
+cited=$(while read -r call form entry; do
+    case $form in function) says="≡ ([^ ]*·)?$entry" ;; *) says="Answered \\($entry" ;; esac
+    if head_of "$call" | grep -qE "$says( |\)|\$)"; then echo "$call"; fi
+done < <(sed -nE '/^ *-- [a-z0-9_]+::[a-z0-9_]+$/ { N; s/^ *-- ([a-z0-9_:]+)\n *(function|call[0-9]) \(?([^()]*[^() ])\)? ∷.*/\1 \2 \3/p }' crates/promises/specs/Calls.antt) | sort)
+[ "$calls" = "$cited" ] || { fault 'these contracts do not cite their entry of the promises:'; diff <(echo "$cited") <(echo "$calls") >&2 || true; }
+
+# Each contract speaks of every lent output afterwards and of every field of the answer.
+for call in $calls; do
+    head=$(head_of "$call")
+    for output in $(grep -oE '[a-z0-9_]+: &mut' <<<"$head" | cut -d : -f 1); do
+        grep -qF "($output .exit)" <<<"$head" || fault "$call says nothing of $output afterwards"
+    done
+    answer=$(sed -nE 's/.*\) -> ([A-Z][A-Za-z0-9]*)$/\1/p' <<<"$head")
+    for field in $(awk -v name="pub struct $answer {" 'index($0, name) { on = 1; next } on && /^}/ { exit } on' "crates/${call%%::*}"/src/*.rt | sed -nE 's/^ *pub ([a-z0-9_]+):.*/\1/p'); do
+        grep -qE "r \.$field[^a-z0-9_]|r ≡" <<<"$head" || fault "$call says nothing of the field $field of its answer"
+    done
+done
+
+# An edit of definitions alone is a changed statement, and is called so.
+while IFS= read -r edit; do
+    file=$(found "$edit") && ! grep -q '^file: src/' "$file" || continue
+    if grep -oE "[a-z]* ?\`$edit\`" docs/PROMISES.md | grep -qv '^statement '; then fault "docs/PROMISES.md: $edit changes a statement"; fi
+done < <(grep -oE '`[a-z0-9_]+/must-fail/[a-z0-9_]+\.edit`' docs/PROMISES.md | tr -d '`' | sort -u)
+
+# The line of `call` that makes a call of the library bears its name, after its crate's where two crates share it; but for these. What only the programs
+# are made of has none.
 line_of() {
+    local name=${1##*::}
     case $1 in
     frames::header_of) echo header ;;
     frames::look_refusal) echo look ;;
-    *) echo "${1##*::}" ;;
+    *) if [ "$(grep -c "::$name$" <<<"$calls")" -gt 1 ]; then echo "${1%%::*}_$name"; else echo "$name"; fi ;;
     esac
 }
-library=$(grep -E '^(octets|kasumi|kgcore|keystreams|numbering|frames|link)::' <<<"$calls")
+library=$(grep -v '^lines::' <<<"$calls")
 told=$(for call in $library; do line_of "$call"; done | sort -u)
 known=$(awk '/^## By hand: the program call$/ { on = 1; next } on && /^```$/ { fences++; next } fences == 1 { print $1 } fences == 2 { exit }' docs/CALLS.md | sort)
 [ "$told" = "$known" ] || { fault 'docs/CALLS.md does not list a line of `call` for each call of the library:'; diff <(echo "$known") <(echo "$told") >&2 || true; }
