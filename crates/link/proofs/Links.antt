@@ -3,7 +3,8 @@
 use Prim.Native.Nat.{ℕ, _≤_, _<_}
 use native.Mathlib.Omega.{arith}
 use mathlib.Core.Path.{_≡_, refl, sym, ap₂, _∙_}
-use mathlib.Core.Bool.{true, false, and-eq-true-iff, _||_}
+use mathlib.Core.Logic.{_⊎_, inl, inr}
+use mathlib.Core.Bool.{true, false, and-eq-true-iff, and-false, _||_}
 use mathlib.Core.List.{List}
 use borrow.Author.Tests.{leb-true, not-false, ne-eqb, le-ltb}
 use lib.Dec.{eqb, ltb}
@@ -12,6 +13,7 @@ use Rattle.refusals.specs.Refusal.{first, rowAt}
 use Rattle.refusals.specs.Call.{Answered, front}
 use Rattle.refusals.proofs.Calls.{answered-done}
 use Rattle.refusals.proofs.Laws.{then-and-only-then}
+use Rattle.refusals.proofs.Tests.{by-test}
 use Rattle.keystreams.specs.Key.{isKey, prepared}
 use Rattle.keystreams.proofs.Keys.{length-prepared}
 use Rattle.link.specs.declared.Link.{Link}
@@ -29,6 +31,19 @@ direction-most direction exists = leb-true direction 1 exists
 pub link-says : (link : Link) → linkCanArise link ≡ true → (isService (link .sapi) ≡ true) × (isDirection (link .direction) ≡ true)
 unfolding linkCanArise
 link-says link good = and-eq-true-iff _ _ .0 good
+
+-- and where it cannot, one of the two does not exist
+pub link-says-not : (link : Link) → linkCanArise link ≡ false → (isService (link .sapi) ≡ false) ⊎ (isDirection (link .direction) ≡ false)
+unfolding linkCanArise
+link-says-not link bad =
+    by-test (isService (link .sapi)) ((isService (link .sapi) ≡ false) ⊎ (isDirection (link .direction) ≡ false))
+    (λ service. inr (rw service at bad))
+    (λ none. inl none)
+
+pub says-no-link : (link : Link) → (isService (link .sapi) ≡ false) ⊎ (isDirection (link .direction) ≡ false) → linkCanArise link ≡ false
+unfolding linkCanArise
+says-no-link link (inl service) = rw service
+says-no-link link (inr direction) = rw (direction, and-false)
 
 -- no link is none
 pub no-link : linkCanArise noLink ≡ false

@@ -18,7 +18,7 @@ use Rattle.sender.proofs.Laws.{opened-sender}
 use Rattle.receiver.specs.declared.Receiver.{Receiver}
 use Rattle.receiver.specs.Receiver.{newReceiver, openReceiverCall}
 use Rattle.receiver.proofs.Laws.{opened-receiver}
-use Rattle.promises.specs.Ends.{SentFrame, Events, AllInWindow, IsOneOf, IsFrame, OpenedAlike, IsNew, benchSending, benchReceiving, benchEnds}
+use Rattle.promises.specs.Ends.{SentFrame, Events, AllInWindow, IsOneOf, IsFrame, NewlyOpenedEnds, NewlyOpenedReceiver, benchSending, benchReceiving, benchEnds}
 use Rattle.promises.specs.Promise3.{KeptBy, Promise3}
 use Rattle.promises.proofs.Frames.{told-by-number}
 use Rattle.promises.proofs.Sending.{senders-half}
@@ -27,7 +27,7 @@ use Rattle.promises.proofs.BenchLaws.{bench-sending, bench-receiving, b
 
 module _ (w : ℕ) (wide : 0 < w) (narrow : w ≤ 512) where
   -- the receiver's half, of a newly opened receiver
-  newly-opened : {receiver receiver-last : Receiver} {frames : List SentFrame} → IsNew receiver
+  newly-opened : {receiver receiver-last : Receiver} {frames : List SentFrame} → NewlyOpenedReceiver receiver
       → ((frame : SentFrame) → IsOneOf frame frames → IsFrame frameAt (receiver .link) frame)
       → (events : Events (benchReceiving w) frames receiver receiver-last) → AllInWindow w events
       → KeptBy events
@@ -41,7 +41,7 @@ module _ (w : ℕ) (wide : 0 < w) (narrow : w ≤ 512) where
       record { answered = both .0; next-is = both .1 ∙ omega arith }
 
   -- ends that were opened alike are on one link
-  same-link : {sender : Sender} {receiver : Receiver} → OpenedAlike sender receiver → sender .link ≡ receiver .link
+  same-link : {sender : Sender} {receiver : Receiver} → NewlyOpenedEnds sender receiver → sender .link ≡ receiver .link
   unfolding newSender newReceiver
   same-link alike =
       ap (λ (s : Sender). s .link) (opened-sender (alike .key) (alike .iov) (alike .sapi) (alike .direction) (alike .sender-opened))

@@ -133,7 +133,7 @@ AllInWindow w (refused call not-done opens rest) = AllInWindow w rest
 -- ---- the bench frame, its sender and its receiver, whose window has the width w
 
 -- a sender and a receiver newly opened with the same key, offset, service number and direction
-pub record OpenedAlike (sender : Sender) (receiver : Receiver) : Type 0 where
+pub record NewlyOpenedEnds (sender : Sender) (receiver : Receiver) : Type 0 where
   pub key : List ℕ
   pub iov : ℕ
   pub sapi : ℕ
@@ -142,7 +142,7 @@ pub record OpenedAlike (sender : Sender) (receiver : Receiver) : Type 0 where
   pub receiver-opened : Answered (openReceiverCall key iov sapi direction) 0 [] receiver
 
 -- a newly opened receiver
-pub record IsNew (receiver : Receiver) : Type 0 where
+pub record NewlyOpenedReceiver (receiver : Receiver) : Type 0 where
   pub key : List ℕ
   pub iov : ℕ
   pub sapi : ℕ
@@ -173,6 +173,6 @@ benchEnds w = record {
   frameOf = frameAt;
   sending = benchSending;
   receiving = benchReceiving w;
-  IsNew = IsNew;
-  OpenedAlike = OpenedAlike;
+  IsNew = NewlyOpenedReceiver;
+  OpenedAlike = NewlyOpenedEnds;
 }

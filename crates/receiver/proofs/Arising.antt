@@ -4,8 +4,8 @@
 use Prim.Native.Nat.{ℕ, zero, suc, _≤_, _<_}
 use native.Mathlib.Omega.{arith}
 use mathlib.Core.Path.{_≡_, refl, sym, ap, subst, _∙_}
-use mathlib.Core.Logic.{_↔_}
-use mathlib.Core.Bool.{true, false}
+use mathlib.Core.Logic.{_↔_, inl, inr, ⊎-elim}
+use mathlib.Core.Bool.{true, false, and-false}
 use mathlib.Core.List.{List, [], _∷_}
 use borrow.Author.Tests.{eq-eqb, leb-false, not-false}
 use lib.Dec.{lit<, lit≤}
@@ -13,6 +13,7 @@ use lib.ListN.{length}
 use Rattle.refusals.specs.Refusal.{first, rowAt}
 use Rattle.refusals.specs.Call.{Answered}
 use Rattle.refusals.proofs.Calls.{done, determined}
+use Rattle.refusals.proofs.Tests.{by-test}
 use Rattle.keystreams.proofs.Keys.{whole-is-key, prepared-whole}
 use Rattle.frames.specs.declared.Header.{Header}
 use Rattle.frames.specs.Frame.{AreOctets, frame, headerOf, payloadOf, lookOrder}
@@ -20,16 +21,32 @@ use Rattle.frames.proofs.Tests.{InRange}
 use Rattle.frames.proofs.ReadBack.{header-of-frame, payload-of-frame, frame-looked, frame-octets, header-of-range}
 use Rattle.numbering.specs.declared.Numbering.{Numbering}
 use Rattle.numbering.specs.Numbering.{start, canArise, InWindow, isPastEnd, accepted, candidate, candidateOrder, numberCall, Arises, at-start, by-step}
-use Rattle.numbering.proofs.Arising.{can-arise-iff, accepted-can-arise}
+use Rattle.numbering.proofs.Arising.{cannot-arise-iff, can-arise-iff, accepted-can-arise}
 use Rattle.numbering.proofs.Candidate.{in-window}
 use Rattle.numbering.proofs.Step.{Passed, step-passed, candidate-decides}
 use Rattle.link.specs.declared.Link.{Link}
 use Rattle.link.specs.Link.{linkCanArise, linkOrder, linkOf}
-use Rattle.link.proofs.Links.{link-says, service-most, direction-most}
+use Rattle.link.proofs.Links.{link-says, link-says-not, says-no-link, service-most, direction-most}
 use Rattle.receiver.specs.declared.Receiver.{Receiver}
-use Rattle.receiver.specs.Receiver.{newReceiver, afterAccepting, Opening, openReceiverCall, receiverCanArise, isOfLink, candidateOf, openOrder, openCall, ReceiverArises, opened, accepted-frame}
+use Rattle.receiver.specs.Receiver.{newReceiver, afterAccepting, Opening, openReceiverCall, receiverCanArise, isOfLink, candidateOf, openOrder, openCall, ReceiverCannotArise, no-service, no-direction, no-numbering, ReceiverArises, opened, accepted-frame}
 use Rattle.receiver.proofs.Opening.{receiver-says, open-0}
 use Rattle.receiver.proofs.Laws.{opened-can-arise}
+
+-- refusal 12, cause by cause
+pub receiver-cannot-arise-iff : (w : ℕ) (receiver : Receiver) → (receiverCanArise w receiver ≡ false) ↔ ReceiverCannotArise w receiver
+unfolding receiverCanArise
+receiver-cannot-arise-iff w receiver = (
+  (λ bad.
+      by-test (linkCanArise (receiver .link)) (ReceiverCannotArise w receiver)
+      (λ good. no-numbering (cannot-arise-iff w (receiver .numbering) .0 (rw good at bad)))
+      (λ none. ⊎-elim (λ service. no-service service) (λ direction. no-direction direction) (link-says-not (receiver .link) none))),
+  causes,
+)
+  where
+    causes : ReceiverCannotArise w receiver → receiverCanArise w receiver ≡ false
+    causes (no-service service) = rw (says-no-link (receiver .link) (inl service))
+    causes (no-direction direction) = rw (says-no-link (receiver .link) (inr direction))
+    causes (no-numbering numbering) = rw (cannot-arise-iff w (receiver .numbering) .1 numbering, and-false)
 
 -- what opening a frame leaves of a receiver can arise
 module _ (w : ℕ) (wide : 0 < w) (narrow : w ≤ 512) (receiver : Receiver) (octets before : List ℕ) (each : AreOctets octets) {number size : ℕ} {later : Receiver} {after : List ℕ}

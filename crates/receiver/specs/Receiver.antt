@@ -1,15 +1,16 @@
 -- The receiver: opening it, and opening a frame. The width w of the window is a number; the link's is `width`. Assumes nothing.
 use Prim.Native.Nat.{ℕ}
-use mathlib.Core.Bool.{Bool, not, _&&_, _||_}
+use mathlib.Core.Path.{_≡_}
+use mathlib.Core.Bool.{Bool, false, not, _&&_, _||_}
 use mathlib.Core.List.{List, [], _∷_, _++_}
 use lib.Dec.{eqb, ltb}
 use lib.ListN.{length}
 use Rattle.refusals.specs.Refusal.{Row}
 use Rattle.refusals.specs.Call.{Call, Answered, front, makes}
 use Rattle.frames.specs.Frame.{AreOctets, headerOf, payloadOf, lookOrder}
-use Rattle.numbering.specs.Numbering.{start, canArise, candidate, candidateOrder, accepted}
+use Rattle.numbering.specs.Numbering.{start, canArise, CannotArise, candidate, candidateOrder, accepted}
 use Rattle.link.specs.declared.Link.{Link}
-use Rattle.link.specs.Link.{linkCanArise, linkOrder, noLink, linkOf, ciphered}
+use Rattle.link.specs.Link.{isService, isDirection, linkCanArise, linkOrder, noLink, linkOf, ciphered}
 use Rattle.receiver.specs.declared.Receiver.{Receiver}
 
 -- a new receiver on a link: it has accepted nothing
@@ -27,6 +28,14 @@ openReceiverCall key iov sapi direction = makes (linkOrder key sapi direction) (
 -- a receiver that can arise: its link can, and its numbering can
 unfoldable pub receiverCanArise : ℕ → Receiver → Bool
 receiverCanArise w receiver = linkCanArise (receiver .link) && canArise w (receiver .numbering)
+
+-- the table's causes of refusal 12 for a receiver, one by one: `receiverCanArise` fails exactly where one of them holds
+pub data ReceiverCannotArise (w : ℕ) (receiver : Receiver) : Type 0 where
+  -- SAPI or direction out of range
+  no-service : isService (receiver .link .sapi) ≡ false → ReceiverCannotArise w receiver
+  no-direction : isDirection (receiver .link .direction) ≡ false → ReceiverCannotArise w receiver
+  -- next above 2^27, or a mark that cannot be or is missing
+  no-numbering : CannotArise w (receiver .numbering) → ReceiverCannotArise w receiver
 
 -- a frame of this link, by its header
 unfoldable pub isOfLink : Link → List ℕ → Bool

@@ -4,23 +4,41 @@ use Prim.Native.Nat.{ℕ, zero, suc, _+_, _≤_, _<_}
 use native.Mathlib.Omega.{arith}
 use native.Mathlib.Numerals.{add-one}
 use mathlib.Core.Path.{_≡_, refl, sym, ap, subst, _∙_}
-use mathlib.Core.Logic.{_↔_}
-use mathlib.Core.Bool.{true}
+use mathlib.Core.Logic.{_↔_, inl, inr, ⊎-elim}
+use mathlib.Core.Bool.{true, false, and-false}
 use mathlib.Core.List.{List, [], _∷_}
-use borrow.Author.Tests.{le-leb}
+use borrow.Author.Tests.{le-leb, lt-leb, leb-false}
 use lib.ListN.{length, replicate}
 use Rattle.refusals.specs.Refusal.{first}
 use Rattle.refusals.specs.Call.{Answered}
 use Rattle.refusals.proofs.Calls.{done}
+use Rattle.refusals.proofs.Tests.{by-test}
 use Rattle.keystreams.specs.Key.{prepared}
 use Rattle.keystreams.proofs.Keys.{whole-is-key, prepared-whole}
 use Rattle.numbering.specs.Numbering.{end}
 use Rattle.link.specs.declared.Link.{Link}
 use Rattle.link.specs.Link.{linkCanArise, linkOrder, linkOf}
+use Rattle.link.proofs.Links.{link-says-not, says-no-link}
 use Rattle.sender.specs.declared.Sender.{Sender}
-use Rattle.sender.specs.Sender.{newSender, afterFrame, openSenderCall, senderCanArise, sealCall, SenderArises, opened, sealed}
+use Rattle.sender.specs.Sender.{newSender, afterFrame, openSenderCall, senderCanArise, sealCall, SenderCannotArise, next-past-end, no-service, no-direction, SenderArises, opened, sealed}
 use Rattle.sender.proofs.Sealing.{sender-says, seal-0}
 use Rattle.sender.proofs.Laws.{opened-can-arise, seal-done, sealed-can-arise}
+
+-- refusal 12, cause by cause
+pub sender-cannot-arise-iff : (sender : Sender) → (senderCanArise sender ≡ false) ↔ SenderCannotArise sender
+unfolding senderCanArise
+sender-cannot-arise-iff sender = (
+  (λ bad.
+      by-test (linkCanArise (sender .link)) (SenderCannotArise sender)
+      (λ good. next-past-end (leb-false _ _ (rw good at bad)))
+      (λ none. ⊎-elim (λ service. no-service service) (λ direction. no-direction direction) (link-says-not (sender .link) none))),
+  causes,
+)
+  where
+    causes : SenderCannotArise sender → senderCanArise sender ≡ false
+    causes (next-past-end past) = rw (lt-leb _ _ past, and-false)
+    causes (no-service service) = rw (says-no-link (sender .link) (inl service))
+    causes (no-direction direction) = rw (says-no-link (sender .link) (inr direction))
 
 -- the sender of a link with this next number
 abbrev at : Link → ℕ → Sender

@@ -1,6 +1,7 @@
 -- The sender: opening it, and sealing a payload into the frame of its next number. Assumes nothing.
-use Prim.Native.Nat.{ℕ, _+_}
-use mathlib.Core.Bool.{Bool, not, _&&_}
+use Prim.Native.Nat.{ℕ, _+_, _<_}
+use mathlib.Core.Path.{_≡_}
+use mathlib.Core.Bool.{Bool, false, not, _&&_}
 use mathlib.Core.List.{List, [], _∷_}
 use lib.Dec.{eqb, leb, ltb}
 use lib.ListN.{length}
@@ -8,7 +9,7 @@ use Rattle.refusals.specs.Refusal.{Row}
 use Rattle.refusals.specs.Call.{Call, Answered, front, makes, none}
 use Rattle.numbering.specs.Numbering.{end}
 use Rattle.link.specs.declared.Link.{Link}
-use Rattle.link.specs.Link.{linkCanArise, linkOrder, noLink, linkOf, isPayload, frameAt}
+use Rattle.link.specs.Link.{isService, isDirection, linkCanArise, linkOrder, noLink, linkOf, isPayload, frameAt}
 use Rattle.sender.specs.declared.Sender.{Sender}
 
 -- a new sender on a link: its next number is 0
@@ -26,6 +27,14 @@ openSenderCall key iov sapi direction = makes (linkOrder key sapi direction) (ne
 -- a sender that can arise: its link can, and its next number is at most 2^27
 unfoldable pub senderCanArise : Sender → Bool
 senderCanArise sender = linkCanArise (sender .link) && leb (sender .next) end
+
+-- the table's causes of refusal 12 for a sender, one by one: `senderCanArise` fails exactly where one of them holds
+pub data SenderCannotArise (sender : Sender) : Type 0 where
+  -- next above 2^27
+  next-past-end : end < sender .next → SenderCannotArise sender
+  -- SAPI or direction out of range
+  no-service : isService (sender .link .sapi) ≡ false → SenderCannotArise sender
+  no-direction : isDirection (sender .link .direction) ≡ false → SenderCannotArise sender
 
 -- the refusals of sealing, in their order
 unfoldable pub sealOrder : Sender → List ℕ → List ℕ → List Row
