@@ -11,7 +11,7 @@ use Rattle.demo.specs.declared.play.Stage.{Stage}
 use Rattle.demo.specs.Words.{quoted}
 use Rattle.demo.specs.Columns.{column}
 use Rattle.demo.specs.Ends.{exampleLink, emptyShelf}
-use Rattle.demo.specs.Script.{obeyed}
+use Rattle.demo.specs.Acts.{obeyed}
 
 -- the room that an output must have: five columns of eleven octets, a text of at most 46, and the line feed
 abbrev pub room : ℕ

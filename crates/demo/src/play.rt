@@ -6,7 +6,7 @@ ghost use lib.ListN.{length};
 ghost use Rattle.lines.specs.Text.{AtFront};
 ghost use Rattle.lines.specs.Hearing.{heardLine, HearCall, FinishCall};
 ghost use Rattle.demo.specs.Ends.{emptyShelf};
-ghost use Rattle.demo.specs.Script.{obeyed, StepCall};
+ghost use Rattle.demo.specs.Acts.{obeyed, StepCall};
 ghost use Rattle.demo.specs.Play.{room, heading as Play·heading, demoRules, standing, newStage, newPlay};
 use crate::acts::Stepped;
 use crate::script;
