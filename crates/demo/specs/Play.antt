@@ -36,9 +36,9 @@ standing play = record { state = play .stage; heard = play .heard }
 unfoldable pub newStage : Stage
 newStage = record { phone = newSender exampleLink; cell = newReceiver exampleLink; shelf = emptyShelf }
 
--- at the start nothing is heard
+-- at the start nothing is heard, and nothing is written
 unfoldable pub newPlay : Play
-newPlay = record { heard = silence; stage = newStage }
+newPlay = record { heard = silence; stage = newStage; written = 0 }
 
 -- the heading: the names of the columns
 unfoldable pub heading : List ℕ
