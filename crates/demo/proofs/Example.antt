@@ -13,10 +13,11 @@ use Rattle.frames.specs.Frame.{pairAt, isWhole, lookOrder}
 use Rattle.link.specs.Link.{isService, isDirection, linkCanArise, linkOf, isPayload}
 use Rattle.sender.specs.Sender.{newSender, afterFrame, senderCanArise, sealOrder}
 use Rattle.receiver.specs.Receiver.{newReceiver, receiverCanArise, openOrder}
-use Rattle.demo.specs.Words.{quoted, refusalWords, refusalText}
-use Rattle.demo.specs.Columns.{column, phoneText, numberText, answerText, shownText, textColumn, cellColumns, silentColumns, allPrintable}
+use Rattle.demo.specs.Words.{quoted, refusalWords, refusalText, whyWords}
+use Rattle.demo.specs.Columns.{column, phoneText, whyText, numberText, answerText, shownText, textColumn, cellColumns, silentColumns}
 use Rattle.demo.specs.Ends.{exampleLink, frameRoom, phoneAfter, emptyShelf, frameKept}
-use Rattle.demo.specs.Script.{handedColumns, losing, giving, nothing, begins, countOf, placeOf, loseLine, giveLine, commanded, obeyed}
+use Rattle.demo.specs.Script.{allPrintable, begins, countOf, placeOf, askedLose, askedGive, askedCommand, asked}
+use Rattle.demo.specs.Acts.{handedColumns, losing, giving, nothing, obeyed}
 use Rattle.demo.specs.Play.{answer, after, newStage, heading, demoOutput}
 
 -- the script
@@ -30,7 +31,7 @@ told =
     ++ (quoted "-          gave 3     -          5 length   0          -\n" ++ quoted "?          command    -          -          0          -\n")
 
 pub script-example : demoOutput script ≡ heading ++ told
-unfolding script told demoOutput heading linesOf linesFrom answers answer after obeyed commanded allPrintable within begins loseLine giveLine countOf placeOf isNumber allDigits digitValue valueOf valueFrom losing giving nothing phoneText handedColumns silentColumns cellColumns numberText answerText refusalText refusalWords textColumn shownText column decimalText decimalDigits glyphOf phoneAfter outcome sealOrder senderCanArise linkCanArise isService isDirection isPayload first openOrder receiverCanArise canArise mark marksOf lookOrder isWhole pairAt frameKept emptyShelf frameRoom newStage newSender newReceiver afterFrame exampleLink linkOf end
+unfolding script told demoOutput heading linesOf linesFrom answers answer after obeyed asked askedCommand allPrintable within begins askedLose askedGive countOf placeOf isNumber allDigits digitValue valueOf valueFrom losing giving nothing phoneText handedColumns silentColumns cellColumns numberText answerText refusalText refusalWords whyText whyWords textColumn shownText column decimalText decimalDigits glyphOf phoneAfter outcome sealOrder senderCanArise linkCanArise isService isDirection isPayload first openOrder receiverCanArise canArise mark marksOf lookOrder isWhole pairAt frameKept emptyShelf frameRoom newStage newSender newReceiver afterFrame exampleLink linkOf end
 script-example = refl
 
 -- the empty script has the heading alone

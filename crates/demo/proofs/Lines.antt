@@ -1,27 +1,25 @@
--- The laws of the lines of a script: the words of a line, and which step is taken for it.
+-- The laws of the lines of a script: the words of a line, what it asks for, and that this is possible.
 -- Assumes nothing.
 use Prim.Native.Nat.{ℕ, _+_, _-_, _≤_, _<_}
 use native.Mathlib.Nat.{not-suc-le-zero, le-of-suc-le-suc, lt-of-lt-of-le, pow-le-pow-right}
 use native.Mathlib.Omega.{arith}
 use mathlib.Core.Path.{_≡_, refl, sym, ap, ap₂, _∙_}
-use mathlib.Core.Bool.{Bool, true, false, cond, _&&_}
+use mathlib.Core.Bool.{Bool, true, false, cond, not, _&&_}
 use mathlib.Core.List.{List, [], _∷_}
-use borrow.Author.Tests.{eqb-true, eqb-false, eq-eqb, ne-eqb, lt-ltb, le-ltb, le-leb}
-use lib.Dec.{eqb, lit≤}
-use lib.ListN.{length, getD, take, drop}
+use borrow.Author.Tests.{eqb-true, eqb-false, eq-eqb, ne-eqb, lt-ltb, le-ltb, le-leb, ltb-false}
+use lib.Dec.{eqb, ltb, lit≤}
+use lib.ListN.{length, getD, drop}
 use lib.Seq.{drop-length}
 use Rattle.refusals.specs.Call.{Answered}
 use Rattle.refusals.proofs.Tests.{by-test}
 use Rattle.lines.specs.Digits.{within, valueOf, isNumber, digitsCall, decimalCall}
-use Rattle.lines.specs.Text.{isHex, hexOrder, hexOctets, octetsOfHexCall}
-use Rattle.lines.proofs.Callers.{number-none, number-read, number-refused, put-done, hex-fits, hex-read}
+use Rattle.lines.proofs.Callers.{number-none, number-read, number-refused}
 use Rattle.lines.proofs.Digits.{within-both, within-below, within-above, within-to, from-place, number-below, number-size, number-digits}
-use Rattle.lines.proofs.Text.{length-hexOctets}
-use Rattle.demo.specs.declared.play.Stage.{Stage}
+use Rattle.demo.specs.declared.script.Asked.{Asked}
+use Rattle.demo.specs.declared.script.Asked.the-variants.{Remark, Pass, Lose, Keep, Give, Noise, Bad}
+use Rattle.demo.specs.declared.script.Why.the-variants.{Long, Empty, Octet, Command, Count, Place}
 use Rattle.demo.specs.Words.{quoted}
-use Rattle.demo.specs.Columns.{allPrintable}
-use Rattle.demo.specs.Script.{passing, losing, keeping, giving, noising, nothing, remarking, begins, countOf, placeOf, loseLine, keepLine, giveLine, noiseLine, commanded, obeyed}
-use Rattle.demo.proofs.Texts.{written-text}
+use Rattle.demo.specs.Script.{allPrintable, begins, countOf, placeOf, askedLose, askedKeep, askedGive, askedCommand, asked}
 
 -- ---- the words of a line
 
@@ -95,115 +93,175 @@ module _ (text : List ℕ) where
   unfolding countOf
   count-read short answered = read-value 10 10 text answered ∙ ap (λ (b : Bool). cond b (valueOf 10 text) 0) (same-number short)
 
--- ---- which line is which
+-- ---- printable texts
 
-module _ (stage : Stage) (rest : List ℕ) where
-  pub lose-none : {count : ℕ} → count ≡ countOf rest → count ≡ 0 → nothing stage (quoted "count") ≡ loseLine stage rest
-  unfolding loseLine
+printable-step : (text : List ℕ) (i : ℕ) → i < length text → allPrintable (drop i text) ≡ (within 32 126 (getD text i 0) && allPrintable (drop (i + 1) text))
+unfolding allPrintable
+printable-step text i inside = ap allPrintable (from-place text i inside)
+
+module _ (text : List ℕ) (i : ℕ) where
+  pub printable-low : i < length text → getD text i 0 < 32 → allPrintable (drop i text) ≡ false
+  printable-low inside low = printable-step text i inside ∙ rw (within-below 32 126 (getD text i 0) low)
+
+  pub printable-high : i < length text → 126 < getD text i 0 → allPrintable (drop i text) ≡ false
+  printable-high inside high = printable-step text i inside ∙ rw (within-above 32 126 (getD text i 0) (omega arith) high)
+
+  pub printable-passes : i < length text → 32 ≤ getD text i 0 → getD text i 0 ≤ 126 → allPrintable (drop i text) ≡ allPrintable (drop (i + 1) text)
+  printable-passes inside from to = printable-step text i inside ∙ rw (within-both 32 126 (getD text i 0) from to)
+
+  pub printable-end : i ≡ length text → allPrintable (drop i text) ≡ true
+  unfolding allPrintable
+  printable-end end = ap (λ (n : ℕ). allPrintable (drop n text)) end ∙ ap allPrintable (drop-length text)
+
+-- ---- what a line asks for
+
+module _ (rest : List ℕ) where
+  pub lose-none : {count : ℕ} → count ≡ countOf rest → count ≡ 0 → Bad Count ≡ askedLose rest
+  unfolding askedLose
   lose-none is none = rw (eq-eqb (countOf rest) 0 (sym is ∙ none))
 
-  pub lose-some : {count : ℕ} → count ≡ countOf rest → (count ≡ 0 → ⊥) → losing stage count ≡ loseLine stage rest
-  unfolding loseLine
-  lose-some is some = ap (losing stage) is ∙ rw (ne-eqb (countOf rest) 0 (λ none. some (is ∙ none)))
+  pub lose-some : {count : ℕ} → count ≡ countOf rest → (count ≡ 0 → ⊥) → Lose count ≡ askedLose rest
+  unfolding askedLose
+  lose-some is some = ap Lose is ∙ rw (ne-eqb (countOf rest) 0 (λ none. some (is ∙ none)))
 
-  pub keep-short : length rest < 2 → nothing stage (quoted "place") ≡ keepLine stage rest
-  unfolding keepLine
+  pub keep-short : length rest < 2 → Bad Place ≡ askedKeep rest
+  unfolding askedKeep
   keep-short short = rw (lt-ltb (length rest) 2 short)
 
   module _ {k : ℕ} (place : k ≡ placeOf (getD rest 0 0)) where
     module _ (long : 2 ≤ length rest) where
-      pub keep-nowhere : 9 < k → nothing stage (quoted "place") ≡ keepLine stage rest
-      unfolding keepLine
+      pub keep-nowhere : 9 < k → Bad Place ≡ askedKeep rest
+      unfolding askedKeep
       keep-nowhere high = rw (le-ltb (length rest) 2 long, lt-ltb 9 (placeOf (getD rest 0 0)) (omega arith))
 
       module _ (low : k ≤ 9) where
-        pub keep-there : {text : List ℕ} → getD rest 1 0 ≡ 32 → text ≡ drop 2 rest → keeping stage k text ≡ keepLine stage rest
-        unfolding keepLine
-        keep-there space is =
-            ap₂ (keeping stage) place is
-            ∙ rw (le-ltb (length rest) 2 long, le-ltb 9 (placeOf (getD rest 0 0)) (omega arith), eq-eqb (getD rest 1 0) 32 space)
+        pub keep-there : getD rest 1 0 ≡ 32 → Keep k ≡ askedKeep rest
+        unfolding askedKeep
+        keep-there space =
+            ap Keep place ∙ rw (le-ltb (length rest) 2 long, le-ltb 9 (placeOf (getD rest 0 0)) (omega arith), eq-eqb (getD rest 1 0) 32 space)
 
-        pub keep-unspaced : (getD rest 1 0 ≡ 32 → ⊥) → nothing stage (quoted "place") ≡ keepLine stage rest
-        unfolding keepLine
+        pub keep-unspaced : (getD rest 1 0 ≡ 32 → ⊥) → Bad Place ≡ askedKeep rest
+        unfolding askedKeep
         keep-unspaced other =
             rw (le-ltb (length rest) 2 long, le-ltb 9 (placeOf (getD rest 0 0)) (omega arith), ne-eqb (getD rest 1 0) 32 other)
 
     module _ (one : length rest ≡ 1) where
-      pub give-nowhere : 9 < k → nothing stage (quoted "place") ≡ giveLine stage rest
-      unfolding giveLine
+      pub give-nowhere : 9 < k → Bad Place ≡ askedGive rest
+      unfolding askedGive
       give-nowhere high = rw (eq-eqb (length rest) 1 one, lt-ltb 9 (placeOf (getD rest 0 0)) (omega arith))
 
-      pub give-there : k ≤ 9 → giving stage k ≡ giveLine stage rest
-      unfolding giveLine
-      give-there low = ap (giving stage) place ∙ rw (eq-eqb (length rest) 1 one, le-ltb 9 (placeOf (getD rest 0 0)) (omega arith))
+      pub give-there : k ≤ 9 → Give k ≡ askedGive rest
+      unfolding askedGive
+      give-there low = ap Give place ∙ rw (eq-eqb (length rest) 1 one, le-ltb 9 (placeOf (getD rest 0 0)) (omega arith))
 
-  pub give-other : (length rest ≡ 1 → ⊥) → nothing stage (quoted "place") ≡ giveLine stage rest
-  unfolding giveLine
+  pub give-other : (length rest ≡ 1 → ⊥) → Bad Place ≡ askedGive rest
+  unfolding askedGive
   give-other other = rw (ne-eqb (length rest) 1 other)
 
-  -- pairs of hex digits in a line are few enough for the room that they are lent
-  module _ (few : length rest ≤ 48) (before : List ℕ) (room : length before ≡ 46) {after : List ℕ} {refusal count : ℕ}
-      (answered : Answered (octetsOfHexCall rest before) refusal (count ∷ []) after) where
-    pub noise-none : (refusal ≡ 0 → ⊥) → nothing stage (quoted "hex") ≡ noiseLine stage rest
-    unfolding noiseLine
-    noise-none refused =
-        by-test (isHex rest) (nothing stage (quoted "hex") ≡ noiseLine stage rest)
-        (λ good. absurd (refused (hex-fits rest before answered good (omega (arith, length-hexOctets rest)))))
-        (λ bad. rw bad)
-
-    pub noise-some : refusal ≡ 0 → noising stage (take count after) ≡ noiseLine stage rest
-    unfolding noiseLine
-    noise-some done =
-        ap (noising stage) (written-text (put-done (hexOrder rest before) (hexOctets rest) before answered done)) ∙ rw (hex-read rest before answered done)
-
-module _ (stage : Stage) (line : List ℕ) where
-  pub is-pass : {text : List ℕ} → begins (quoted "pass ") line ≡ true → text ≡ drop 5 line → passing stage text ≡ commanded stage line
-  unfolding commanded
-  is-pass pass is = ap (passing stage) is ∙ rw pass
+module _ (line : List ℕ) where
+  pub is-pass : begins (quoted "pass ") line ≡ true → Pass ≡ askedCommand line
+  unfolding askedCommand
+  is-pass pass = rw pass
 
   module _ (no-pass : begins (quoted "pass ") line ≡ false) where
-    pub is-lose : {text : List ℕ} → begins (quoted "lose ") line ≡ true → text ≡ drop 5 line → loseLine stage text ≡ commanded stage line
-    unfolding commanded
-    is-lose lose is = ap (loseLine stage) is ∙ rw (no-pass, lose)
+    pub is-lose : begins (quoted "lose ") line ≡ true → askedLose (drop 5 line) ≡ askedCommand line
+    unfolding askedCommand
+    is-lose lose = rw (no-pass, lose)
 
     module _ (no-lose : begins (quoted "lose ") line ≡ false) where
-      pub is-keep : {text : List ℕ} → begins (quoted "keep ") line ≡ true → text ≡ drop 5 line → keepLine stage text ≡ commanded stage line
-      unfolding commanded
-      is-keep keep is = ap (keepLine stage) is ∙ rw (no-pass, no-lose, keep)
+      pub is-keep : begins (quoted "keep ") line ≡ true → askedKeep (drop 5 line) ≡ askedCommand line
+      unfolding askedCommand
+      is-keep keep = rw (no-pass, no-lose, keep)
 
       module _ (no-keep : begins (quoted "keep ") line ≡ false) where
-        pub is-give : {text : List ℕ} → begins (quoted "give ") line ≡ true → text ≡ drop 5 line → giveLine stage text ≡ commanded stage line
-        unfolding commanded
-        is-give give is = ap (giveLine stage) is ∙ rw (no-pass, no-lose, no-keep, give)
+        pub is-give : begins (quoted "give ") line ≡ true → askedGive (drop 5 line) ≡ askedCommand line
+        unfolding askedCommand
+        is-give give = rw (no-pass, no-lose, no-keep, give)
 
         module _ (no-give : begins (quoted "give ") line ≡ false) where
-          pub is-noise : {text : List ℕ} → begins (quoted "noise ") line ≡ true → text ≡ drop 6 line → noiseLine stage text ≡ commanded stage line
-          unfolding commanded
-          is-noise noise is = ap (noiseLine stage) is ∙ rw (no-pass, no-lose, no-keep, no-give, noise)
+          pub is-noise : begins (quoted "noise ") line ≡ true → Noise ≡ askedCommand line
+          unfolding askedCommand
+          is-noise noise = rw (no-pass, no-lose, no-keep, no-give, noise)
 
-          pub is-none : begins (quoted "noise ") line ≡ false → nothing stage (quoted "command") ≡ commanded stage line
-          unfolding commanded
+          pub is-none : begins (quoted "noise ") line ≡ false → Bad Command ≡ askedCommand line
+          unfolding askedCommand
           is-none no-noise = rw (no-pass, no-lose, no-keep, no-give, no-noise)
 
-  pub is-long : 48 < length line → nothing stage (quoted "long") ≡ obeyed stage line
-  unfolding obeyed
+  pub is-long : 48 < length line → Bad Long ≡ asked line
+  unfolding asked
   is-long long = rw (lt-ltb 48 (length line) long)
 
   module _ (short : length line ≤ 48) where
-    pub is-empty : length line ≡ 0 → nothing stage (quoted "empty") ≡ obeyed stage line
-    unfolding obeyed
+    pub is-empty : length line ≡ 0 → Bad Empty ≡ asked line
+    unfolding asked
     is-empty empty = rw (le-ltb 48 (length line) short, eq-eqb (length line) 0 empty)
 
     module _ (some : length line ≡ 0 → ⊥) where
-      pub is-octet : allPrintable line ≡ false → nothing stage (quoted "octet") ≡ obeyed stage line
-      unfolding obeyed
+      pub is-octet : allPrintable line ≡ false → Bad Octet ≡ asked line
+      unfolding asked
       is-octet other = rw (le-ltb 48 (length line) short, ne-eqb (length line) 0 some, other)
 
       module _ (printable : allPrintable line ≡ true) where
-        pub is-remark : begins (quoted "#") line ≡ true → remarking stage line ≡ obeyed stage line
-        unfolding obeyed
+        pub is-remark : begins (quoted "#") line ≡ true → Remark ≡ asked line
+        unfolding asked
         is-remark remark = rw (le-ltb 48 (length line) short, ne-eqb (length line) 0 some, printable, remark)
 
-        pub is-command : begins (quoted "#") line ≡ false → commanded stage line ≡ obeyed stage line
-        unfolding obeyed
+        pub is-command : begins (quoted "#") line ≡ false → askedCommand line ≡ asked line
+        unfolding asked
         is-command other = rw (le-ltb 48 (length line) short, ne-eqb (length line) 0 some, printable, other)
+
+-- ---- what is asked is possible
+
+-- a count is from 1 to 999 and a place from 0 to 9; a remark and the digits of `noise` stand in a line of at most 48 octets
+abbrev pub Possible : List ℕ → Asked → Type 0
+Possible line Remark = length line ≤ 48
+Possible line Pass = Unit {0}
+Possible line (Lose count) = (0 < count) × (count < 1000)
+Possible line (Keep k) = k < 10
+Possible line (Give k) = k < 10
+Possible line Noise = length line ≤ 48
+Possible line (Bad why) = Unit {0}
+
+module _ (line : List ℕ) where
+  -- of two, whichever a test picks
+  either : (test : Bool) (a b : Asked) → (test ≡ true → Possible line a) → (test ≡ false → Possible line b) → Possible line (cond test a b)
+  either true a b one other = one refl
+  either false a b one other = other refl
+
+  module _ (rest : List ℕ) where
+    lose-possible : Possible line (askedLose rest)
+    unfolding askedLose
+    lose-possible = either (eqb (countOf rest) 0) _ _ (λ none. tt) (λ some. (omega (arith, eqb-false (countOf rest) 0 some), count-below rest))
+
+    keep-possible : Possible line (askedKeep rest)
+    unfolding askedKeep
+    keep-possible =
+        either (ltb (length rest) 2) _ _ (λ short. tt)
+        (λ long. either (ltb 9 (placeOf (getD rest 0 0))) _ _ (λ high. tt)
+        (λ low. either (eqb (getD rest 1 0) 32) _ _ (λ space. omega (arith, ltb-false 9 (placeOf (getD rest 0 0)) low)) (λ other. tt)))
+
+    give-possible : Possible line (askedGive rest)
+    unfolding askedGive
+    give-possible =
+        either (eqb (length rest) 1) _ _
+        (λ one. either (ltb 9 (placeOf (getD rest 0 0))) _ _ (λ high. tt) (λ low. omega (arith, ltb-false 9 (placeOf (getD rest 0 0)) low)))
+        (λ other. tt)
+
+  command-possible : length line ≤ 48 → Possible line (askedCommand line)
+  unfolding askedCommand
+  command-possible short =
+      either (begins (quoted "pass ") line) _ _ (λ pass. tt)
+      (λ no-pass. either (begins (quoted "lose ") line) _ _ (λ lose. lose-possible (drop 5 line))
+      (λ no-lose. either (begins (quoted "keep ") line) _ _ (λ keep. keep-possible (drop 5 line))
+      (λ no-keep. either (begins (quoted "give ") line) _ _ (λ give. give-possible (drop 5 line))
+      (λ no-give. either (begins (quoted "noise ") line) _ _ (λ noise. short) (λ no-noise. tt)))))
+
+  pub asked-possible : Possible line (asked line)
+  unfolding asked
+  asked-possible =
+      either (ltb 48 (length line)) _ _ (λ long. tt)
+      (λ few.
+      let short : length line ≤ 48 = ltb-false 48 (length line) few in
+      either (eqb (length line) 0) _ _ (λ empty. tt)
+      (λ some. either (not (allPrintable line)) _ _ (λ octet. tt)
+      (λ printable. either (begins (quoted "#") line) _ _ (λ remark. short) (λ other. command-possible short))))

@@ -11,15 +11,15 @@ use Rattle.lines.proofs.Hearing.{LongAlike}
 use Rattle.lines.proofs.Run.{run-writes-answers}
 use Rattle.demo.specs.declared.play.Stage.{Stage}
 use Rattle.demo.specs.declared.play.Play.{Play}
-use Rattle.demo.specs.Script.{Step, obeyed}
+use Rattle.demo.specs.Acts.{Step, doneFor, obeyed}
 use Rattle.demo.specs.Play.{answer, after, demoRules, standing, newStage, newPlay, heading, demoOutput}
 use Rattle.demo.proofs.Lines.{is-long}
 use Rattle.demo.proofs.Texts.{written-text}
 
 -- a line that is too long is answered, and changes the stage, like any other that is
 long-same : (stage : Stage) (line : List ℕ) → 48 < length line → obeyed stage line ≡ obeyed stage tooLong
-unfolding tooLong
-long-same stage line long = sym (is-long stage line long) ∙ is-long stage tooLong (lit≤ tt)
+unfolding tooLong obeyed
+long-same stage line long = ap (doneFor stage line) (sym (is-long line long)) ∙ ap (doneFor stage tooLong) (is-long tooLong (lit≤ tt))
 
 pub demo-alike : LongAlike demoRules
 unfolding answer after

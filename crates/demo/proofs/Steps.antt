@@ -1,27 +1,32 @@
 -- The laws of what is done for a line: columns joined to a line, and each step.
 -- Assumes nothing.
-use Prim.Native.Nat.{ℕ, _-_, _*_, _≤_}
+use Prim.Native.Nat.{ℕ, _-_, _≤_}
 use native.Mathlib.Omega.{arith}
 use mathlib.Core.Path.{_≡_, ap, ap₂, subst, _∙_}
-use mathlib.Core.Bool.{_||_}
-use mathlib.Core.List.{List, _++_, append-assoc}
+use mathlib.Core.Bool.{true, false, _||_}
+use mathlib.Core.List.{List, [], _∷_, _++_, append-assoc}
 use lib.Dec.{eqb}
-use lib.ListN.{length, set, length-append}
-use Rattle.refusals.specs.Call.{Outcome}
-use Rattle.lines.specs.Text.{decimalText, AtFront, Added}
+use lib.ListN.{length, take, length-append}
+use Rattle.refusals.specs.Call.{Outcome, Answered}
+use Rattle.refusals.proofs.Tests.{by-test}
+use Rattle.lines.specs.Text.{isHex, hexOrder, hexOctets, octetsOfHexCall, decimalText, AtFront, Added}
+use Rattle.lines.proofs.Callers.{put-done, hex-fits, hex-read}
 use Rattle.lines.proofs.Placed.{at-front-added}
+use Rattle.lines.proofs.Text.{length-hexOctets}
 use Rattle.numbering.specs.Numbering.{width}
 use Rattle.sender.specs.declared.Sender.{Sender}
 use Rattle.sender.specs.Sender.{Sealing}
 use Rattle.receiver.specs.declared.Receiver.{Receiver}
 use Rattle.receiver.specs.Receiver.{Opening, openCall}
+use Rattle.demo.specs.declared.play.Shelf.{Shelf}
 use Rattle.demo.specs.declared.play.Stage.{Stage}
 use Rattle.demo.specs.declared.acts.Stepped.{Stepped}
+use Rattle.demo.specs.declared.script.Why.the-variants.{Hex}
 use Rattle.demo.specs.Words.{quoted}
 use Rattle.demo.specs.Columns.{column, phoneText, cellColumns, silentColumns}
 use Rattle.demo.specs.Ends.{frameRoom, numberIn, phoneAnswer, sealedFrame, phoneAfter, cellAnswer, openedText, frameKept, shelved}
-use Rattle.demo.specs.Script.{Step, handedColumns, passing, losing, keeping, giving, noising, HandCall, StepCall}
-use Rattle.demo.proofs.Texts.{added-more}
+use Rattle.demo.specs.Acts.{Step, handedColumns, passing, losing, keeping, giving, handing, noising, nothing, HandCall, StepCall}
+use Rattle.demo.proofs.Texts.{added-more, written-text}
 
 -- ---- columns joined
 
@@ -80,23 +85,17 @@ module _ (stage : Stage) {before after : List ℕ} {written : ℕ} where
         said-is = subst (Says before written after) (ap (λ (s : Outcome Sealing). sealedLine s (column (quoted "lost " ++ decimalText count) ++ silentColumns (stage .cell .numbering .next))) is) put;
       }
 
-  pub kept : (k : ℕ) (text : List ℕ) {sealed : Outcome Sealing} {end size : ℕ} {frames : List ℕ} → sealed ≡ phoneAnswer (stage .phone) text
-      → Added (sealedFrame sealed) (stage .shelf .frames) (46 * k) end frames → size ≡ length (sealedFrame sealed)
+  pub kept : (k : ℕ) (text : List ℕ) {sealed : Outcome Sealing} {shelf : Shelf} → sealed ≡ phoneAnswer (stage .phone) text
+      → shelf ≡ shelved (stage .shelf) k (sealedFrame sealed)
       → Says before written after (sealedLine sealed (column (quoted "kept " ++ decimalText k) ++ silentColumns (stage .cell .numbering .next)))
-      → StepCall (keeping stage k text) before
-      (record {
-        stage = record { phone = sealed .lent .sender; cell = stage .cell; shelf = record { frames = frames; sizes = set (stage .shelf .sizes) k size } };
-        written = written;
-      }) after
-  unfolding keeping shelved
-  kept k text {sealed} is added size-is put = record {
-    stage-is =
-        (λ i. record {
-          phone = sealed .lent .sender;
-          cell = stage .cell;
-          shelf = record { frames = added .output-is i; sizes = set (stage .shelf .sizes) k (size-is i) };
-        })
-        ∙ (λ i. record { phone = is i .lent .sender; cell = stage .cell; shelf = shelved (stage .shelf) k (sealedFrame (is i)) });
+      → StepCall (keeping stage k text) before (record { stage = record { phone = sealed .lent .sender; cell = stage .cell; shelf = shelf }; written = written }) after
+  unfolding keeping
+  kept k text is shelf-is put = record {
+    stage-is = λ i. record {
+      phone = is i .lent .sender;
+      cell = stage .cell;
+      shelf = (shelf-is ∙ ap (λ (s : Outcome Sealing). shelved (stage .shelf) k (sealedFrame s)) is) i;
+    };
     said-is = subst (Says before written after) (ap (λ (s : Outcome Sealing). sealedLine s (column (quoted "kept " ++ decimalText k) ++ silentColumns (stage .cell .numbering .next))) is) put;
   }
 
@@ -113,11 +112,27 @@ module _ (stage : Stage) {before after : List ℕ} {written : ℕ} where
     said-is = subst (Says before written after) (ap (λ (l : List ℕ). column (quoted "-") ++ (column (quoted "gave " ++ decimalText k) ++ handedColumns (stage .cell) l)) frame-is) put;
   }
 
-  pub noised : (octets : List ℕ) {cell : Receiver} → cell ≡ cellAnswer (stage .cell) octets .lent .receiver
+  pub handed-over : (octets : List ℕ) {cell : Receiver} → cell ≡ cellAnswer (stage .cell) octets .lent .receiver
       → Says before written after (column (quoted "-") ++ (column (quoted "handed") ++ handedColumns (stage .cell) octets))
-      → StepCall (noising stage octets) before (record { stage = record { phone = stage .phone; cell = cell; shelf = stage .shelf }; written = written }) after
-  unfolding noising
-  noised octets cell-is put = record { stage-is = λ i. record { phone = stage .phone; cell = cell-is i; shelf = stage .shelf }; said-is = put }
+      → StepCall (handing stage octets) before (record { stage = record { phone = stage .phone; cell = cell; shelf = stage .shelf }; written = written }) after
+  unfolding handing
+  handed-over octets cell-is put = record { stage-is = λ i. record { phone = stage .phone; cell = cell-is i; shelf = stage .shelf }; said-is = put }
+
+module _ (stage : Stage) where
+  -- pairs of hex digits in a line are few enough for the room that they are lent
+  module _ (text : List ℕ) (few : length text ≤ 48) (before : List ℕ) (room : length before ≡ 46) {after : List ℕ} {refusal count : ℕ}
+      (answered : Answered (octetsOfHexCall text before) refusal (count ∷ []) after) where
+    pub noise-none : (refusal ≡ 0 → ⊥) → nothing stage Hex ≡ noising stage text
+    unfolding noising
+    noise-none refused =
+        by-test (isHex text) (nothing stage Hex ≡ noising stage text)
+        (λ good. absurd (refused (hex-fits text before answered good (omega (arith, length-hexOctets text)))))
+        (λ bad. rw bad)
+
+    pub noise-some : refusal ≡ 0 → handing stage (take count after) ≡ noising stage text
+    unfolding noising
+    noise-some done =
+        ap (handing stage) (written-text (put-done (hexOrder text before) (hexOctets text) before answered done)) ∙ rw (hex-read text before answered done)
 
 -- the columns of what the cell answered
 abbrev columnsOf : Receiver → List ℕ → Outcome Opening → List ℕ

@@ -5,19 +5,17 @@ use native.Mathlib.Decide.{decLt}
 use native.Mathlib.Numerals.{add-one}
 use native.Mathlib.Omega.{arith}
 use mathlib.Core.Path.{_≡_, refl, sym, ap, ap₂, _∙_}
-use mathlib.Core.Bool.{true, false, _&&_}
 use mathlib.Core.List.{List, [], _∷_, _++_, append-assoc, append-nil}
 use borrow.Author.Tests.{eq-eqb, ne-eqb}
 use lib.Dec.{lit≤}
 use lib.ListN.{length, getD, take, drop, set, replicate, length-append, length-drop, take-append-drop}
-use lib.Seq.{length-take-le, take-append-seam, take-suc, take-at, drop-at, drop-drop, drop-append-le, drop-length, take-length}
-use Rattle.lines.specs.Digits.{within}
+use lib.Seq.{length-take-le, take-append-seam, take-suc, take-at, drop-at, drop-drop, drop-append-le, take-length}
 use Rattle.refusals.specs.Call.{front}
 use Rattle.octets.proofs.Listed.{front-store}
 use Rattle.lines.specs.Text.{decimalText, AtFront, Added}
-use Rattle.lines.proofs.Digits.{within-both, within-below, within-above, from-place}
+use Rattle.lines.proofs.Digits.{within-both, within-below, within-above}
 use Rattle.lines.proofs.InDecimal.{decimal-one, length-more}
-use Rattle.demo.specs.Columns.{column, shown, shownText, textColumn, allPrintable}
+use Rattle.demo.specs.Columns.{column, shown, shownText, textColumn}
 
 -- ---- a text over another, and a text after another
 
@@ -180,23 +178,3 @@ module _ (text : List ℕ) where
   pub text-some : (length text ≡ 0 → ⊥) → shownText text ++ 10 ∷ [] ≡ textColumn text
   unfolding textColumn
   text-some some = rw (ne-eqb (length text) 0 some)
-
--- ---- printable texts
-
-printable-step : (text : List ℕ) (i : ℕ) → i < length text → allPrintable (drop i text) ≡ (within 32 126 (getD text i 0) && allPrintable (drop (i + 1) text))
-unfolding allPrintable
-printable-step text i inside = ap allPrintable (from-place text i inside)
-
-module _ (text : List ℕ) (i : ℕ) where
-  pub printable-low : i < length text → getD text i 0 < 32 → allPrintable (drop i text) ≡ false
-  printable-low inside low = printable-step text i inside ∙ rw (within-below 32 126 (getD text i 0) low)
-
-  pub printable-high : i < length text → 126 < getD text i 0 → allPrintable (drop i text) ≡ false
-  printable-high inside high = printable-step text i inside ∙ rw (within-above 32 126 (getD text i 0) (omega arith) high)
-
-  pub printable-passes : i < length text → 32 ≤ getD text i 0 → getD text i 0 ≤ 126 → allPrintable (drop i text) ≡ allPrintable (drop (i + 1) text)
-  printable-passes inside from to = printable-step text i inside ∙ rw (within-both 32 126 (getD text i 0) from to)
-
-  pub printable-end : i ≡ length text → allPrintable (drop i text) ≡ true
-  unfolding allPrintable
-  printable-end end = ap (λ (n : ℕ). allPrintable (drop n text)) end ∙ ap allPrintable (drop-length text)

@@ -1,4 +1,4 @@
--- The laws of the table of words for refusals, whatever rows it has: each row is ten octets of the joined table.
+-- The laws of the tables of words, whatever rows they have: each row is ten octets of the joined table.
 -- Assumes nothing.
 use Prim.Native.Nat.{ℕ, zero, suc, _+_, _-_, _*_, _≤_, _<_}
 use Prim.Native.String.{String}
@@ -7,13 +7,16 @@ use native.Mathlib.Omega.{arith}
 use mathlib.Core.Path.{_≡_, refl, sym, ap, _∙_}
 use mathlib.Core.Bool.{Bool, true, _&&_}
 use mathlib.Core.List.{List, [], _∷_, _++_}
-use lib.Dec.{T, eqb, eqb→eq}
+use lib.Dec.{T, eqb, eqb→eq, lit≤}
 use lib.ListN.{length, getD, take, drop, length-append}
 use lib.Seq.{take-at, drop-at, drop-drop}
 use Rattle.refusals.proofs.Tests.{and-left, and-right}
 use Rattle.lines.specs.Text.{decimalText}
 use Rattle.lines.proofs.Digits.{within-both, within-above}
-use Rattle.demo.specs.Words.{quoted, refusalWords, joined, refusalText}
+use Rattle.demo.specs.declared.script.Why.{Why}
+use Rattle.demo.specs.declared.script.Why.the-variants.{Long, Empty, Octet, Command, Count, Place, Hex}
+use Rattle.demo.specs.Words.{quoted, joined, refusalWords, refusalText, whyWords}
+use Rattle.demo.specs.Columns.{whyRow, whyText}
 
 -- every row has ten octets
 abbrev allTen : List String → Bool
@@ -43,21 +46,44 @@ row-at (row ∷ rest) tens (suc k) inside =
     ∙ ap (drop (10 * k)) (drop-at (quoted row) (joined rest) 10 (ten row rest tens)))
     ∙ row-at rest (rest-ten row rest tens) k (le-of-suc-le-suc inside)
 
-all-ten : T (allTen refusalWords)
-unfolding refusalWords
-all-ten = tt
-
 -- a refusal with a row shows it, and one without shows its number
+refusals-ten : T (allTen refusalWords)
+unfolding refusalWords
+refusals-ten = tt
+
 module _ (refusal : ℕ) (some : 0 < refusal) where
   pub has-row : 10 * refusal ≤ length (joined refusalWords) → take 10 (drop (10 * refusal - 10) (joined refusalWords)) ≡ refusalText refusal
   unfolding refusalText
   has-row within =
-      let few : refusal ≤ length refusalWords = omega (arith, length-joined refusalWords all-ten) in
+      let few : refusal ≤ length refusalWords = omega (arith, length-joined refusalWords refusals-ten) in
       let from : 10 * refusal - 10 ≡ 10 * (refusal - 1) = omega arith in
       ap (λ (n : ℕ). take 10 (drop n (joined refusalWords))) from
-      ∙ row-at refusalWords all-ten (refusal - 1) (omega arith)
+      ∙ row-at refusalWords refusals-ten (refusal - 1) (omega arith)
       ∙ rw (within-both 1 (length refusalWords) refusal some few)
 
   pub no-row : length (joined refusalWords) < 10 * refusal → decimalText refusal ≡ refusalText refusal
   unfolding refusalText
-  no-row past = rw (within-above 1 (length refusalWords) refusal some (omega (arith, length-joined refusalWords all-ten)))
+  no-row past = rw (within-above 1 (length refusalWords) refusal some (omega (arith, length-joined refusalWords refusals-ten)))
+
+-- each reason has a row
+whys-ten : T (allTen whyWords)
+unfolding whyWords
+whys-ten = tt
+
+why-below : (why : Why) → whyRow why < length whyWords
+unfolding whyWords
+why-below Long = lit≤ tt
+why-below Empty = lit≤ tt
+why-below Octet = lit≤ tt
+why-below Command = lit≤ tt
+why-below Count = lit≤ tt
+why-below Place = lit≤ tt
+why-below Hex = lit≤ tt
+
+module _ (why : Why) where
+  pub why-fits : 10 * whyRow why + 10 ≤ length (joined whyWords)
+  why-fits = omega (arith, why-below why, length-joined whyWords whys-ten)
+
+  pub why-row : take 10 (drop (10 * whyRow why) (joined whyWords)) ≡ whyText why
+  unfolding whyText
+  why-row = row-at whyWords whys-ten (whyRow why) (why-below why)

@@ -1,12 +1,14 @@
 -- The columns of an answer. Assumes nothing.
 use Prim.Native.Nat.{ℕ}
-use mathlib.Core.Bool.{Bool, true, cond, _&&_}
+use mathlib.Core.Bool.{Bool, cond}
 use mathlib.Core.List.{List, [], _∷_, _++_}
 use lib.Dec.{eqb}
-use lib.ListN.{length, drop, replicate}
+use lib.ListN.{length, getD, drop, replicate}
 use Rattle.lines.specs.Digits.{within}
 use Rattle.lines.specs.Text.{decimalText}
-use Rattle.demo.specs.Words.{quoted, refusalText}
+use Rattle.demo.specs.declared.script.Why.{Why}
+use Rattle.demo.specs.declared.script.Why.the-variants.{Long, Empty, Octet, Command, Count, Place, Hex}
+use Rattle.demo.specs.Words.{quoted, refusalText, whyWords}
 
 -- a text at the left of a column, which is eleven octets wide and filled up with spaces (32): ten digits and a space have room
 unfoldable pub column : List ℕ → List ℕ
@@ -15,6 +17,20 @@ column text = text ++ drop (length text) (replicate 11 32)
 -- what the phone's column shows: the number of the frame that it sealed, or why it sealed none
 unfoldable pub phoneText : ℕ → ℕ → List ℕ
 phoneText refusal number = cond (eqb refusal 0) (decimalText number) (refusalText refusal)
+
+-- the row of a reason for a bad line
+abbrev pub whyRow : Why → ℕ
+whyRow Long = 0
+whyRow Empty = 1
+whyRow Octet = 2
+whyRow Command = 3
+whyRow Count = 4
+whyRow Place = 5
+whyRow Hex = 6
+
+-- what the box's column shows for a bad line
+unfoldable pub whyText : Why → List ℕ
+whyText why = quoted (getD whyWords (whyRow why) "")
 
 -- what the cell's number column shows: the number where one is given
 unfoldable pub numberText : Bool → ℕ → List ℕ
@@ -45,8 +61,3 @@ cellColumns given refusal number next text =
 -- and where it is handed nothing: only its next number is shown
 unfoldable pub silentColumns : ℕ → List ℕ
 silentColumns next = column (quoted "-") ++ (column (quoted "-") ++ (column (decimalText next) ++ quoted "-\n"))
-
--- each octet of a text is printable ASCII
-unfoldable pub allPrintable : List ℕ → Bool
-allPrintable [] = true
-allPrintable (octet ∷ rest) = within 32 126 octet && allPrintable rest

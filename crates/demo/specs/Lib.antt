@@ -1,3 +1,4 @@
+pub mod Acts
 pub mod Columns
 pub mod Ends
 pub mod Play

@@ -11,7 +11,7 @@ use Rattle.demo.specs.declared.play.Stage.{Stage}
 use Rattle.demo.specs.Words.{quoted}
 use Rattle.demo.specs.Columns.{column}
 use Rattle.demo.specs.Ends.{exampleLink, emptyShelf}
-use Rattle.demo.specs.Script.{obeyed}
+use Rattle.demo.specs.Acts.{obeyed}
 
 -- the room that an output must have: five columns of eleven octets, a text of at most 46, and the line feed
 abbrev pub room : ℕ
@@ -36,9 +36,9 @@ standing play = record { state = play .stage; heard = play .heard }
 unfoldable pub newStage : Stage
 newStage = record { phone = newSender exampleLink; cell = newReceiver exampleLink; shelf = emptyShelf }
 
--- at the start nothing is heard
+-- at the start nothing is heard, and nothing is written
 unfoldable pub newPlay : Play
-newPlay = record { heard = silence; stage = newStage }
+newPlay = record { heard = silence; stage = newStage; written = 0 }
 
 -- the heading: the names of the columns
 unfoldable pub heading : List ℕ

@@ -1,4 +1,4 @@
--- The words of an answer: a quoted text as octets, and the table of the words for refusals. Assumes nothing.
+-- The words of an answer: a quoted text as octets, and the tables of words. The one for refusals has a row for each. Assumes nothing.
 use Prim.Native.Nat.{ℕ, _-_}
 use Prim.Native.Char.{code}
 use Prim.Native.String.{String, [] as ended, _∷_ as _then_}
@@ -12,6 +12,11 @@ use Rattle.lines.specs.Text.{decimalText}
 abbrev pub quoted : String → List ℕ
 quoted ended = []
 quoted (letter then rest) = code letter ∷ quoted rest
+
+-- the rows of a table, one after the other
+abbrev pub joined : List String → List ℕ
+joined [] = []
+joined (row ∷ rest) = quoted row ++ joined rest
 
 -- the words for refusals, one row a refusal from number 1 on, each filled up to ten octets
 unfoldable pub refusalWords : List String
@@ -29,11 +34,10 @@ refusalWords =
     "11 repeat " ∷
     "12 state  " ∷ []
 
--- the rows of a table, one after the other
-abbrev pub joined : List String → List ℕ
-joined [] = []
-joined (row ∷ rest) = quoted row ++ joined rest
-
 -- what is shown for a refusal: its row, or the number alone where the table has none for it
 unfoldable pub refusalText : ℕ → List ℕ
 refusalText refusal = cond (within 1 (length refusalWords) refusal) (quoted (getD refusalWords (refusal - 1) "")) (decimalText refusal)
+
+-- the words for why a line is bad, one row a reason, each filled up to ten octets
+unfoldable pub whyWords : List String
+whyWords = "long      " ∷ "empty     " ∷ "octet     " ∷ "command   " ∷ "count     " ∷ "place     " ∷ "hex       " ∷ []

@@ -3,12 +3,13 @@ ghost use mathlib.Core.Path.{_≡_};
 ghost use Prim.Native.Nat.{_*_, _≤_, _<_, min};
 ghost use lib.ListN.{length, drop, take};
 ghost use Rattle.demo.specs.Words.{quoted};
-ghost use Rattle.demo.specs.Ends.{phoneAnswer, phoneAfter};
+ghost use Rattle.demo.specs.Ends.{phoneAnswer, phoneAfter, shelved};
 ghost use Rattle.demo.specs.Play.{room};
-ghost use Rattle.demo.specs.Script.{passing, losing, keeping, giving, noising, nothing as Script·nothing, remarking, HandCall, StepCall};
+ghost use Rattle.demo.specs.Acts.{passing, losing, keeping, giving, handing, noising, nothing as Acts·nothing, remarking, HandCall, StepCall};
 use crate::columns;
 use crate::play::Shelf;
 use crate::play::Stage;
+use crate::script::Why;
 use receiver::Receiver;
 use sender::Sender;
 
@@ -59,6 +60,18 @@ fn frame_at(frames: &[u8], k: usize, size: u8) -> &[u8]
     }
     let end = from + size as usize;
     &frames[from..end]
+}
+
+// The shelf with a frame put at place k.
+fn shelve(shelf: Shelf, k: usize, frame: &[u8]) -> Shelf
+    requires { ⌜ (k < 10) × (length (now frame) ≤ 46) ⌝ }
+    ensures { λ r. ⌜ r ≡ shelved shelf k (now (frame .entry)) ⌝ }
+{
+    let mut frames = shelf.frames;
+    let mut sizes = shelf.sizes;
+    columns::add(frame, &mut frames, 46 * k);
+    sizes[k] = frame.len() as u8;
+    Shelf { frames, sizes }
 }
 
 // Hands octets to the cell, and shows its answer. The number is given with 0 and with two refusals.
@@ -133,17 +146,12 @@ pub(crate) fn keep(stage: Stage, k: usize, text: &[u8], output: &mut [u8]) -> St
 {
     let mut frame = [0u8; 46];
     let sealed = sender::seal(stage.phone, text, &mut frame);
-    let size = sealed.size;
-    let old = stage.shelf;
-    let mut frames = old.frames;
-    let mut sizes = old.sizes;
-    columns::add(&frame[..size], &mut frames, 46 * k);
-    sizes[k] = size as u8;
     columns::add_sealed(sealed.refusal, sealed.number, output);
     columns::add_counted(b"kept ", k as u32, output, columns::WIDTH);
+    let size = sealed.size;
     let phone = sealed.sender;
     let cell = stage.cell;
-    let shelf = Shelf { frames, sizes };
+    let shelf = shelve(stage.shelf, k, &frame[..size]);
     let numbering = cell.numbering;
     let written = columns::add_silence(numbering.next, output);
     Stepped {
@@ -173,9 +181,9 @@ pub(crate) fn give(stage: Stage, k: usize, output: &mut [u8]) -> Stepped
 }
 
 // The box hands octets of its own to the cell.
-pub(crate) fn noise(stage: Stage, octets: &[u8], output: &mut [u8]) -> Stepped
+fn hand_over(stage: Stage, octets: &[u8], output: &mut [u8]) -> Stepped
     requires { ⌜ room ≤ length (now output) ⌝ }
-    ensures { λ r. ⌜ StepCall (noising stage (now (octets .entry))) (now (output .entry)) r (now (output .exit)) ⌝ }
+    ensures { λ r. ⌜ StepCall (handing stage (now (octets .entry))) (now (output .entry)) r (now (output .exit)) ⌝ }
 {
     columns::add_column(b"-", output, 0);
     columns::add_column(b"handed", output, columns::WIDTH);
@@ -190,16 +198,30 @@ pub(crate) fn noise(stage: Stage, octets: &[u8], output: &mut [u8]) -> Stepped
 }
 
 // Nothing is done for a bad line.
-pub(crate) fn nothing(stage: Stage, why: &[u8], output: &mut [u8]) -> Stepped
-    requires { ⌜ (length (now why) ≤ 11) × (room ≤ length (now output)) ⌝ }
-    ensures { λ r. ⌜ StepCall (Script·nothing stage (now (why .entry))) (now (output .entry)) r (now (output .exit)) ⌝ }
+pub(crate) fn nothing(stage: Stage, why: Why, output: &mut [u8]) -> Stepped
+    requires { ⌜ room ≤ length (now output) ⌝ }
+    ensures { λ r. ⌜ StepCall (Acts·nothing stage why) (now (output .entry)) r (now (output .exit)) ⌝ }
 {
     columns::add_column(b"?", output, 0);
-    columns::add_column(why, output, columns::WIDTH);
+    columns::add_why(why, output);
     let cell = stage.cell;
     let numbering = cell.numbering;
     let written = columns::add_silence(numbering.next, output);
     Stepped { stage, written }
+}
+
+// The octets that the box hands to the cell are given as pairs of hex digits.
+pub(crate) fn noise(stage: Stage, text: &[u8], output: &mut [u8]) -> Stepped
+    requires { ⌜ (length (now text) ≤ 48) × (room ≤ length (now output)) ⌝ }
+    ensures { λ r. ⌜ StepCall (noising stage (now (text .entry))) (now (output .entry)) r (now (output .exit)) ⌝ }
+{
+    let mut octets = [0u8; 46];
+    let put = lines::octets_of_hex(text, &mut octets);
+    if put.refusal != 0 {
+        return nothing(stage, Why::Hex, output);
+    }
+    let count = put.count;
+    hand_over(stage, &octets[..count], output)
 }
 
 // A remark is answered by itself.

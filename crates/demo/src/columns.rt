@@ -2,15 +2,16 @@
 ghost use mathlib.Core.Path.{_≡_};
 ghost use mathlib.Core.List.{_++_};
 ghost use Prim.Native.Nat.{_+_, _≤_, _<_};
-ghost use lib.ListN.{length, replicate};
+ghost use lib.ListN.{length, take, drop, replicate};
 ghost use Rattle.lines.specs.Text.{Added, decimalText};
-ghost use Rattle.demo.specs.Words.{refusalWords, joined, refusalText};
-ghost use Rattle.demo.specs.Columns.{column, phoneText, numberText, answerText, shown as Columns·shown, shownText, textColumn, cellColumns, silentColumns, allPrintable};
+ghost use Rattle.demo.specs.Words.{joined, refusalWords, refusalText};
+ghost use Rattle.demo.specs.Columns.{column, phoneText, numberText, answerText, shown as Columns·shown, shownText, textColumn, cellColumns, silentColumns, whyRow, whyText};
+use crate::script::Why;
 
 // How wide a column is; the box's column begins there.
 pub(crate) const WIDTH: usize = 11;
 
-// How wide a row of the table of words for refusals is.
+// How wide a row of a table of words is.
 const ROW: usize = 10;
 
 // Puts a text from a place on.
@@ -65,8 +66,17 @@ pub(crate) fn add_counted(text: &[u8], number: u32, output: &mut [u8], place: us
     add_digits(number, output, place + 5);
 }
 
-// Puts the row that a table of words has for a refusal as a column, or the number alone where it has none.
-fn add_row(table: &[u8], refusal: u8, output: &mut [u8], place: usize)
+// Puts a row of a table of words as a column.
+fn add_row(table: &[u8], from: usize, output: &mut [u8], place: usize)
+    requires { ⌜ (from + 10 ≤ length (now table)) × (place + 11 ≤ length (now output)) ⌝ }
+    ensures { λ _. ⌜ Added (column (take 10 (drop from (now (table .entry))))) (now (output .entry)) place (place + 11) (now (output .exit)) ⌝ }
+{
+    let end = from + ROW;
+    add_column(&table[from..end], output, place);
+}
+
+// Puts the row that the table has for a refusal, or the number alone where it has none.
+fn add_row_of(table: &[u8], refusal: u8, output: &mut [u8], place: usize)
     requires { ⌜ (now table ≡ joined refusalWords) × ((0 < refusal) × (place + 11 ≤ length (now output))) ⌝ }
     ensures { λ _. ⌜ Added (column (refusalText refusal)) (now (output .entry)) place (place + 11) (now (output .exit)) ⌝ }
 {
@@ -75,8 +85,7 @@ fn add_row(table: &[u8], refusal: u8, output: &mut [u8], place: usize)
         add_number(refusal as u32, output, place);
         return;
     }
-    let from = end - ROW;
-    add_column(&table[from..end], output, place);
+    add_row(table, end - ROW, output, place);
 }
 
 // Puts the word for a refusal as a column.
@@ -84,7 +93,7 @@ fn add_refusal(refusal: u8, output: &mut [u8], place: usize)
     requires { ⌜ (0 < refusal) × (place + 11 ≤ length (now output)) ⌝ }
     ensures { λ _. ⌜ Added (column (refusalText refusal)) (now (output .entry)) place (place + 11) (now (output .exit)) ⌝ }
 {
-    add_row(
+    add_row_of(
         b"1 key     2 range   3 size    4 room    5 length  6 version 7 spare   8 other   9 start   10 end    11 repeat 12 state  ",
         refusal,
         output,
@@ -102,6 +111,34 @@ pub(crate) fn add_sealed(refusal: u8, number: u32, output: &mut [u8])
         return;
     }
     add_refusal(refusal, output, 0);
+}
+
+// The row of a reason for a bad line.
+fn row_of(why: Why) -> usize
+    ensures { λ r. ⌜ r ≡ whyRow why ⌝ }
+{
+    match why {
+        Why::Long => 0,
+        Why::Empty => 1,
+        Why::Octet => 2,
+        Why::Command => 3,
+        Why::Count => 4,
+        Why::Place => 5,
+        Why::Hex => 6,
+    }
+}
+
+// Puts the box's column for a bad line.
+pub(crate) fn add_why(why: Why, output: &mut [u8])
+    requires { ⌜ 22 ≤ length (now output) ⌝ }
+    ensures { λ _. ⌜ Added (column (whyText why)) (now (output .entry)) 11 22 (now (output .exit)) ⌝ }
+{
+    add_row(
+        b"long      empty     octet     command   count     place     hex       ",
+        ROW * row_of(why),
+        output,
+        WIDTH,
+    );
 }
 
 // Puts the column of the number that the cell worked out, where it is given.
@@ -196,21 +233,4 @@ pub(crate) fn add_silence(next: u32, output: &mut [u8]) -> usize
     add_number(next, output, 44);
     add(b"-\n", output, 55);
     57
-}
-
-// Whether each octet of a text is printable ASCII.
-pub(crate) fn all_printable(text: &[u8]) -> bool
-    ensures { λ r. ⌜ r ≡ allPrintable (now (text .entry)) ⌝ }
-{
-    let mut i = 0;
-    while i < text.len() {
-        if text[i] < 32 {
-            return false;
-        }
-        if 126 < text[i] {
-            return false;
-        }
-        i += 1;
-    }
-    true
 }

@@ -28,8 +28,8 @@ fn hear_piece(play: Play, piece: &[u8], output: &mut [u8]) -> Moved
     let mut so_far = play;
     let mut i = 0;
     while i < piece.len() {
-        let told = play::hear(so_far, piece[i], output);
-        let written = told.written;
+        so_far = play::hear(so_far, piece[i], output);
+        let written = so_far.written;
         if !io::write_all(STDOUT_FILENO, &output[..written]) {
             let nothing = play::new_play();
             return Moved {
@@ -37,8 +37,6 @@ fn hear_piece(play: Play, piece: &[u8], output: &mut [u8]) -> Moved
                 on: false,
             };
         }
-        let next = told.play;
-        so_far = next;
         i += 1;
     }
     Moved {

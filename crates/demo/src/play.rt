@@ -6,7 +6,7 @@ ghost use lib.ListN.{length};
 ghost use Rattle.lines.specs.Text.{AtFront};
 ghost use Rattle.lines.specs.Hearing.{heardLine, HearCall, FinishCall};
 ghost use Rattle.demo.specs.Ends.{emptyShelf};
-ghost use Rattle.demo.specs.Script.{obeyed, StepCall};
+ghost use Rattle.demo.specs.Acts.{obeyed, StepCall};
 ghost use Rattle.demo.specs.Play.{room, heading as Play·heading, demoRules, standing, newStage, newPlay};
 use crate::acts::Stepped;
 use crate::script;
@@ -37,15 +37,10 @@ pub(crate) struct Stage {
     pub shelf: Shelf,
 }
 
-// The state between two octets: the line so far, and the stage.
+// The state between two octets: the line so far, the stage, and how many octets the answer to the last octet has at the front of the output.
 pub(crate) struct Play {
     pub heard: Heard,
     pub stage: Stage,
-}
-
-// The state after an octet, and how many octets its answer has at the front of the output.
-pub(crate) struct Told {
-    pub play: Play,
     pub written: usize,
 }
 
@@ -76,7 +71,11 @@ pub(crate) fn new_play() -> Play
 {
     let heard = lines::silence();
     let stage = new_stage();
-    Play { heard, stage }
+    Play {
+        heard,
+        stage,
+        written: 0,
+    }
 }
 
 // Puts the heading at the front of the output, and answers how many octets it has.
@@ -91,38 +90,39 @@ pub(crate) fn put_heading(output: &mut [u8]) -> usize
 }
 
 // Does what the line heard asks for.
-fn obey_heard(play: Play, output: &mut [u8]) -> Stepped
+fn obey_heard(stage: Stage, heard: Heard, output: &mut [u8]) -> Stepped
     requires { ⌜ room ≤ length (now output) ⌝ }
-    ensures { λ r. ⌜ StepCall (obeyed (play .stage) (heardLine (play .heard))) (now (output .entry)) r (now (output .exit)) ⌝ }
+    ensures { λ r. ⌜ StepCall (obeyed stage (heardLine heard)) (now (output .entry)) r (now (output .exit)) ⌝ }
 {
-    let heard = play.heard;
     let octets = heard.octets;
     let count = heard.count;
     if lines::LONGEST < count {
         let line = lines::too_long();
-        return script::obey(play.stage, &line, output);
+        return script::obey(stage, &line, output);
     }
-    script::obey(play.stage, &octets[..count], output)
+    script::obey(stage, &octets[..count], output)
 }
 
 // Hears one octet: a line feed has the line obeyed and begins a new one, any other octet is kept.
-pub(crate) fn hear(play: Play, octet: u8, output: &mut [u8]) -> Told
+pub(crate) fn hear(play: Play, octet: u8, output: &mut [u8]) -> Play
     requires { ⌜ room ≤ length (now output) ⌝ }
-    ensures { λ r. ⌜ HearCall demoRules (standing play) octet (now (output .entry)) 0 (standing (r .play)) (r .written) (now (output .exit)) ⌝ }
+    ensures { λ r. ⌜ HearCall demoRules (standing play) octet (now (output .entry)) 0 (standing r) (r .written) (now (output .exit)) ⌝ }
 {
     if octet == LINE_FEED {
-        let stepped = obey_heard(play, output);
+        let stepped = obey_heard(play.stage, play.heard, output);
         let heard = lines::silence();
         let stage = stepped.stage;
-        return Told {
-            play: Play { heard, stage },
+        return Play {
+            heard,
+            stage,
             written: stepped.written,
         };
     }
     let heard = lines::kept(play.heard, octet);
     let stage = play.stage;
-    Told {
-        play: Play { heard, stage },
+    Play {
+        heard,
+        stage,
         written: 0,
     }
 }
@@ -136,5 +136,5 @@ pub(crate) fn finish(play: Play, output: &mut [u8]) -> usize
     if heard.count == 0 {
         return 0;
     }
-    obey_heard(play, output).written
+    obey_heard(play.stage, heard, output).written
 }

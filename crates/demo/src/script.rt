@@ -1,13 +1,52 @@
-// The lines of a script: which command a line is, and what it is done with.
+// The lines of a script: what each asks for.
 ghost use mathlib.Core.Path.{_≡_};
 ghost use Prim.Native.Nat.{_≤_, _<_};
 ghost use lib.ListN.{length, drop};
 ghost use Rattle.demo.specs.Play.{room};
-ghost use Rattle.demo.specs.Script.{begins as Script·begins, countOf, placeOf, loseLine, keepLine, giveLine, noiseLine, commanded, obeyed, StepCall};
+ghost use Rattle.demo.specs.Script.{allPrintable, begins as Script·begins, countOf, placeOf, askedLose, askedKeep, askedGive, askedCommand, asked};
+ghost use Rattle.demo.specs.Acts.{obeyed, StepCall};
 use crate::acts;
 use crate::acts::Stepped;
-use crate::columns;
 use crate::play::Stage;
+
+// Why a line is bad.
+pub(crate) enum Why {
+    Long,
+    Empty,
+    Octet,
+    Command,
+    Count,
+    Place,
+    Hex,
+}
+
+// What a line asks for.
+pub(crate) enum Asked {
+    Remark,
+    Pass,
+    Lose(u32),
+    Keep(usize),
+    Give(usize),
+    Noise,
+    Bad(Why),
+}
+
+// Whether each octet of a text is printable ASCII.
+fn all_printable(text: &[u8]) -> bool
+    ensures { λ r. ⌜ r ≡ allPrintable (now (text .entry)) ⌝ }
+{
+    let mut i = 0;
+    while i < text.len() {
+        if text[i] < 32 {
+            return false;
+        }
+        if 126 < text[i] {
+            return false;
+        }
+        i += 1;
+    }
+    true
+}
 
 // Whether the line begins with the word.
 fn begins(word: &[u8], line: &[u8]) -> bool
@@ -38,7 +77,7 @@ fn rest(line: &[u8], from: usize) -> &[u8]
 
 // A count of one to three digits, or 0.
 fn count_of(text: &[u8]) -> u32
-    ensures { λ r. ⌜ (r ≡ countOf (now (text .entry))) × (r < 1000) ⌝ }
+    ensures { λ r. ⌜ r ≡ countOf (now (text .entry)) ⌝ }
 {
     if 3 < text.len() {
         return 0;
@@ -58,85 +97,86 @@ fn place_of(octet: u8) -> usize
 }
 
 // `lose COUNT`, by what stands after `lose `.
-fn lose_line(stage: Stage, rest: &[u8], output: &mut [u8]) -> Stepped
-    requires { ⌜ room ≤ length (now output) ⌝ }
-    ensures { λ r. ⌜ StepCall (loseLine stage (now (rest .entry))) (now (output .entry)) r (now (output .exit)) ⌝ }
+fn asked_lose(rest: &[u8]) -> Asked
+    ensures { λ r. ⌜ r ≡ askedLose (now (rest .entry)) ⌝ }
 {
     let count = count_of(rest);
     if count == 0 {
-        return acts::nothing(stage, b"count", output);
+        return Asked::Bad(Why::Count);
     }
-    acts::lose(stage, count, output)
+    Asked::Lose(count)
 }
 
 // `keep K TEXT`, by what stands after `keep `.
-fn keep_line(stage: Stage, rest: &[u8], output: &mut [u8]) -> Stepped
-    requires { ⌜ room ≤ length (now output) ⌝ }
-    ensures { λ r. ⌜ StepCall (keepLine stage (now (rest .entry))) (now (output .entry)) r (now (output .exit)) ⌝ }
+fn asked_keep(rest: &[u8]) -> Asked
+    ensures { λ r. ⌜ r ≡ askedKeep (now (rest .entry)) ⌝ }
 {
     if rest.len() < 2 {
-        return acts::nothing(stage, b"place", output);
+        return Asked::Bad(Why::Place);
     }
     let k = place_of(rest[0]);
     if 9 < k {
-        return acts::nothing(stage, b"place", output);
+        return Asked::Bad(Why::Place);
     }
     if rest[1] == b' ' {
-        return acts::keep(stage, k, &rest[2..], output);
+        return Asked::Keep(k);
     }
-    acts::nothing(stage, b"place", output)
+    Asked::Bad(Why::Place)
 }
 
 // `give K`, by what stands after `give `.
-fn give_line(stage: Stage, rest: &[u8], output: &mut [u8]) -> Stepped
-    requires { ⌜ room ≤ length (now output) ⌝ }
-    ensures { λ r. ⌜ StepCall (giveLine stage (now (rest .entry))) (now (output .entry)) r (now (output .exit)) ⌝ }
+fn asked_give(rest: &[u8]) -> Asked
+    ensures { λ r. ⌜ r ≡ askedGive (now (rest .entry)) ⌝ }
 {
     if rest.len() == 1 {
         let k = place_of(rest[0]);
         if 9 < k {
-            return acts::nothing(stage, b"place", output);
+            return Asked::Bad(Why::Place);
         }
-        return acts::give(stage, k, output);
+        return Asked::Give(k);
     }
-    acts::nothing(stage, b"place", output)
+    Asked::Bad(Why::Place)
 }
 
-// `noise HEX`, by what stands after `noise `.
-fn noise_line(stage: Stage, rest: &[u8], output: &mut [u8]) -> Stepped
-    requires { ⌜ (length (now rest) ≤ 48) × (room ≤ length (now output)) ⌝ }
-    ensures { λ r. ⌜ StepCall (noiseLine stage (now (rest .entry))) (now (output .entry)) r (now (output .exit)) ⌝ }
-{
-    let mut octets = [0u8; 46];
-    let put = lines::octets_of_hex(rest, &mut octets);
-    if put.refusal != 0 {
-        return acts::nothing(stage, b"hex", output);
-    }
-    let count = put.count;
-    acts::noise(stage, &octets[..count], output)
-}
-
-// A line that is a command, by its first word.
-fn command(stage: Stage, line: &[u8], output: &mut [u8]) -> Stepped
-    requires { ⌜ (length (now line) ≤ 48) × (room ≤ length (now output)) ⌝ }
-    ensures { λ r. ⌜ StepCall (commanded stage (now (line .entry))) (now (output .entry)) r (now (output .exit)) ⌝ }
+// A command, by its first word.
+fn asked_command(line: &[u8]) -> Asked
+    ensures { λ r. ⌜ r ≡ askedCommand (now (line .entry)) ⌝ }
 {
     if begins(b"pass ", line) {
-        return acts::pass(stage, rest(line, 5), output);
+        return Asked::Pass;
     }
     if begins(b"lose ", line) {
-        return lose_line(stage, rest(line, 5), output);
+        return asked_lose(rest(line, 5));
     }
     if begins(b"keep ", line) {
-        return keep_line(stage, rest(line, 5), output);
+        return asked_keep(rest(line, 5));
     }
     if begins(b"give ", line) {
-        return give_line(stage, rest(line, 5), output);
+        return asked_give(rest(line, 5));
     }
     if begins(b"noise ", line) {
-        return noise_line(stage, rest(line, 6), output);
+        return Asked::Noise;
     }
-    acts::nothing(stage, b"command", output)
+    Asked::Bad(Why::Command)
+}
+
+// What a line asks for.
+fn asked_by(line: &[u8]) -> Asked
+    ensures { λ r. ⌜ r ≡ asked (now (line .entry)) ⌝ }
+{
+    if lines::LONGEST < line.len() {
+        return Asked::Bad(Why::Long);
+    }
+    if line.len() == 0 {
+        return Asked::Bad(Why::Empty);
+    }
+    if !all_printable(line) {
+        return Asked::Bad(Why::Octet);
+    }
+    if begins(b"#", line) {
+        return Asked::Remark;
+    }
+    asked_command(line)
 }
 
 // Does what a line asks for, and answers it.
@@ -144,17 +184,14 @@ pub(crate) fn obey(stage: Stage, line: &[u8], output: &mut [u8]) -> Stepped
     requires { ⌜ room ≤ length (now output) ⌝ }
     ensures { λ r. ⌜ StepCall (obeyed stage (now (line .entry))) (now (output .entry)) r (now (output .exit)) ⌝ }
 {
-    if lines::LONGEST < line.len() {
-        return acts::nothing(stage, b"long", output);
+    let what = asked_by(line);
+    match what {
+        Asked::Remark => acts::remark(stage, line, output),
+        Asked::Pass => acts::pass(stage, rest(line, 5), output),
+        Asked::Lose(count) => acts::lose(stage, count, output),
+        Asked::Keep(k) => acts::keep(stage, k, rest(line, 7), output),
+        Asked::Give(k) => acts::give(stage, k, output),
+        Asked::Noise => acts::noise(stage, rest(line, 6), output),
+        Asked::Bad(why) => acts::nothing(stage, why, output),
     }
-    if line.len() == 0 {
-        return acts::nothing(stage, b"empty", output);
-    }
-    if !columns::all_printable(line) {
-        return acts::nothing(stage, b"octet", output);
-    }
-    if begins(b"#", line) {
-        return acts::remark(stage, line, output);
-    }
-    command(stage, line, output)
 }

@@ -68,7 +68,7 @@ loop-less c = omega arith
 
 loop-again : tie.Need-loop-again Inv-loop μ-loop
 loop-again c =
-    let at-hear = c .before .before .before .before .before .before in
+    let at-hear = c .before .before .before .before .before in
     let at-loop = at-hear .before .before .before .before in
     let given = at-loop .before .before .before .args in
     let piece = now (given .piece) in

@@ -23,42 +23,14 @@ fits c = sealed-fits (c .before .before .before .before .args .stage .phone) (no
 within : (c : tie.After-seal) → c .seal .result .size ≤ length (c .seal .last .1 .1 .0)
 within c = omega (arith, fits c, c .seal .kept .1 .1 .0)
 
-long : (c : tie.After-seal) → c .seal .result .size ≡ length (take (c .seal .result .size) (c .seal .last .1 .1 .0))
-long c = sym (length-take-le (c .seal .result .size) (c .seal .last .1 .1 .0) (within c))
-
--- the shelf has ten places of 46 octets
-places : (c : tie.Start) → length (c .args .stage .shelf .frames) ≡ 460
-places c = search needs
+long : (c : tie.After-seal) → length (take (c .seal .result .size) (c .seal .last .1 .1 .0)) ≡ c .seal .result .size
+long c = length-take-le (c .seal .result .size) (c .seal .last .1 .1 .0) (within c)
 
 slice-aggregate-seal : tie.Need-slice-aggregate-seal
 slice-aggregate-seal c = search needs
 
 seal-requires : tie.Need-seal-requires
 seal-requires c κs = search needs
-
-array-share-prefix-frame : tie.Need-array-share-prefix-frame
-array-share-prefix-frame c = within (c .before .before .before .before)
-
-slice-aggregate-add : tie.Need-slice-aggregate-add
-slice-aggregate-add c = long (c .before .before .before .before .before)
-
-slice-aggregate-add-2 : tie.Need-slice-aggregate-add-2
-slice-aggregate-add-2 c = sym (places (c .before .before .before .before .before .before .before .before .before .before))
-
-mul-add : tie.Need-mul-add
-mul-add c = search needs
-
-add-requires : tie.Need-add-requires
-add-requires c κs =
-    let at-seal = c .before .before .before .before .before .before in
-    let at-start = at-seal .before .before .before .before in
-    omega (arith, places at-start, long at-seal, fits at-seal, at-start .pre .0)
-
-cast-sizes : tie.Need-cast-sizes
-cast-sizes c = omega (arith, fits (c .before .before .before .before .before .before .before .before))
-
-array-write-sizes : tie.Need-array-write-sizes
-array-write-sizes c = search needs
 
 add-sealed-requires : tie.Need-add-sealed-requires
 add-sealed-requires c κs = search needs
@@ -72,6 +44,17 @@ cast-add-counted c = search needs
 add-counted-requires : tie.Need-add-counted-requires
 add-counted-requires c κs = search needs
 
+array-share-prefix-frame : tie.Need-array-share-prefix-frame
+array-share-prefix-frame c = within (c .before .before .before .before .before .before .before .before .before .before .before .before)
+
+slice-aggregate-shelve : tie.Need-slice-aggregate-shelve
+slice-aggregate-shelve c = sym (long (c .before .before .before .before .before .before .before .before .before .before .before .before .before))
+
+shelve-requires : tie.Need-shelve-requires
+shelve-requires c κs =
+    let at-seal = c .before .before .before .before .before .before .before .before .before .before .before .before .before in
+    (at-seal .before .before .before .before .pre .0, omega (arith, long at-seal, fits at-seal))
+
 add-silence-requires : tie.Need-add-silence-requires
 add-silence-requires c κs = search needs
 
@@ -81,13 +64,13 @@ same-length c = search needs
 returns : tie.Need-returns
 unfolding frameRoom
 returns c =
-    let at-counted = c .before .before .before .before .before .before .before .before .before in
+    let at-shelf = c .before .before .before .before .before in
+    let at-counted = at-shelf .before .before .before .before .before .before in
     let at-sealed = at-counted .before .before .before .before .before in
-    let at-add = at-sealed .before .before .before in
-    let at-seal = at-add .before .before .before .before .before .before .before in
+    let at-seal = at-sealed .before .before .before in
     let at-start = at-seal .before .before .before .before in
     let given = at-start .args in
-    kept (given .stage) (given .k) (now (given .text)) (is-outcome (sealCall (given .stage .phone) (now (given .text)) frameRoom) (at-seal .seal .ensures)) (at-add .add .ensures) (long at-seal)
+    kept (given .stage) (given .k) (now (given .text)) (is-outcome (sealCall (given .stage .phone) (now (given .text)) frameRoom) (at-seal .seal .ensures)) (at-shelf .shelve .ensures)
     (line-put (omega (arith, at-start .pre .1)) (at-sealed .add-sealed .ensures) (at-counted .add-counted .ensures) (c .before .before .add-silence .ensures))
 
 pub keep-spec : {M : Type 1} → statement M
@@ -96,17 +79,13 @@ keep-spec =
     (tie.spec
     slice-aggregate-seal
     seal-requires
-    array-share-prefix-frame
-    slice-aggregate-add
-    slice-aggregate-add-2
-    mul-add
-    add-requires
-    cast-sizes
-    array-write-sizes
     add-sealed-requires
     slice-aggregate-add-counted
     cast-add-counted
     add-counted-requires
+    array-share-prefix-frame
+    slice-aggregate-shelve
+    shelve-requires
     add-silence-requires
     same-length
     returns)

@@ -1,8 +1,8 @@
--- `demo::acts::nothing` meets its contract: a question mark, the word, and the columns of a cell that is handed nothing.
+-- `demo::acts::nothing` meets its contract: a question mark, why, and the columns of a cell that is handed nothing.
 -- Assumes nothing.
 use mathlib.Core.Path.{refl}
 use native.Mathlib.Omega.{arith}
-use Rattle.demo.specs.Script.{nothing}
+use Rattle.demo.specs.Acts.{nothing}
 use Rattle.demo.proofs.Steps.{line-put}
 use borrow.Author.Needs.{needs}
 use Rattle.demo.proofs.acts.nothing.Statement.{statement}
@@ -14,8 +14,8 @@ slice-aggregate-add-column c = search needs
 add-column-requires : tie.Need-add-column-requires
 add-column-requires c κs = search needs
 
-add-column-requires-2 : tie.Need-add-column-requires-2
-add-column-requires-2 c κs = search needs
+add-why-requires : tie.Need-add-why-requires
+add-why-requires c κs = search needs
 
 add-silence-requires : tie.Need-add-silence-requires
 add-silence-requires c κs = search needs
@@ -30,7 +30,7 @@ returns c =
     let at-bad = at-why .before .before .before .before in
     record {
       stage-is = refl;
-      said-is = line-put (omega (arith, at-bad .before .before .before .before .before .pre .1)) (at-bad .add-column .ensures) (at-why .add-column2 .ensures) (c .before .before .add-silence .ensures);
+      said-is = line-put (omega (arith, at-bad .before .before .before .before .pre)) (at-bad .add-column .ensures) (at-why .add-why .ensures) (c .before .before .add-silence .ensures);
     }
 
 pub nothing-spec : {M : Type 1} → statement M
@@ -39,7 +39,7 @@ nothing-spec =
     (tie.spec
     slice-aggregate-add-column
     add-column-requires
-    add-column-requires-2
+    add-why-requires
     add-silence-requires
     same-length
     returns)

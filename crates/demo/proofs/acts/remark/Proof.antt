@@ -5,7 +5,7 @@ use mathlib.Core.Path.{refl}
 use native.Mathlib.Omega.{arith}
 use Rattle.lines.specs.Text.{AtFront}
 use Rattle.lines.proofs.Placed.{at-front-put, at-front-octet}
-use Rattle.demo.specs.Script.{remarking}
+use Rattle.demo.specs.Acts.{remarking}
 use borrow.Author.Needs.{needs}
 use Rattle.demo.proofs.acts.remark.Statement.{statement}
 use Rattle.demo.proofs.acts.remark.Tie as tie

@@ -6,12 +6,12 @@ use borrow.Author.Needs.{needs}
 use Rattle.demo.proofs.columns.add_refusal.Statement.{statement}
 use Rattle.demo.proofs.columns.add_refusal.Tie as tie
 
-slice-aggregate-add-row : tie.Need-slice-aggregate-add-row
-slice-aggregate-add-row c = search needs
+slice-aggregate-add-row-of : tie.Need-slice-aggregate-add-row-of
+slice-aggregate-add-row-of c = search needs
 
-add-row-requires : tie.Need-add-row-requires
+add-row-of-requires : tie.Need-add-row-of-requires
 unfolding refusalWords
-add-row-requires c κs = (refl, (search needs, search needs))
+add-row-of-requires c κs = (refl, (search needs, search needs))
 
 same-length : tie.Need-same-length
 same-length c = search needs
@@ -21,4 +21,4 @@ returns c = search needs
 
 pub add-refusal-spec : {M : Type 1} → statement M
 add-refusal-spec =
-    tie.close (tie.spec slice-aggregate-add-row add-row-requires same-length returns)
+    tie.close (tie.spec slice-aggregate-add-row-of add-row-of-requires same-length returns)

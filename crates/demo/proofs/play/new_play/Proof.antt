@@ -13,7 +13,7 @@ new-stage-requires c κs = search needs
 
 returns : tie.Need-returns
 unfolding newPlay
-returns c = λ i. record { heard = c .before .silence .ensures i; stage = c .new-stage .ensures i }
+returns c = λ i. record { heard = c .before .silence .ensures i; stage = c .new-stage .ensures i; written = 0 }
 
 pub new-play-spec : {M : Type 1} → statement M
 new-play-spec = tie.close (tie.spec silence-requires new-stage-requires returns)

@@ -1,4 +1,4 @@
--- `demo::obey_heard` meets its contract: one line stands for every line that is too long.
+-- `demo::play::obey_heard` meets its contract: one line stands for every line that is too long.
 -- Assumes nothing.
 use lib.ListN.{length}
 use lib.Seq.{length-take-le}
@@ -10,7 +10,7 @@ use Rattle.demo.proofs.play.obey_heard.Statement.{statement}
 use Rattle.demo.proofs.play.obey_heard.Tie as tie
 
 -- the line so far has 48 places
-forty-eight : (c : tie.Else1) → length (c .before .before .before .before .args .play .heard .octets) ≡ 48
+forty-eight : (c : tie.Else1) → length (c .before .before .before .args .heard .octets) ≡ 48
 forty-eight c = search needs
 
 too-long-requires : tie.Need-too-long-requires
@@ -29,7 +29,7 @@ returns : tie.Need-returns
 returns c =
     let at-line = c .before .before .before .before .before in
     let at-long = at-line .before in
-    rw (line-too-long (at-long .before .before .before .before .args .play .heard) (at-long .if1 .taken) ∙ sym (at-line .too-long .ensures)) (c .before .before .obey .ensures)
+    rw (line-too-long (at-long .before .before .before .args .heard) (at-long .if1 .taken) ∙ sym (at-line .too-long .ensures)) (c .before .before .obey .ensures)
 
 array-share-prefix-octets : tie.Need-array-share-prefix-octets
 array-share-prefix-octets c = omega (arith, forty-eight c)
@@ -46,7 +46,7 @@ same-length-2 c = search needs
 returns-2 : tie.Need-returns-2
 returns-2 c =
     let at-kept = c .before .before .before .before .before in
-    rw (line-kept (at-kept .before .before .before .before .args .play .heard) (at-kept .if1 .left)) (c .before .before .obey2 .ensures)
+    rw (line-kept (at-kept .before .before .before .args .heard) (at-kept .if1 .left)) (c .before .before .obey2 .ensures)
 
 pub obey-heard-spec : {M : Type 1} → statement M
 obey-heard-spec =

@@ -8,23 +8,18 @@ use Rattle.demo.proofs.script.count_of.Statement.{statement}
 use Rattle.demo.proofs.script.count_of.Tie as tie
 
 returns : tie.Need-returns
-returns c = (count-long _ (c .if1 .taken), omega arith)
+returns c = count-long _ (c .if1 .taken)
 
 decimal-requires : tie.Need-decimal-requires
 decimal-requires c κs = search needs
 
 cast-result : tie.Need-cast-result
 cast-result c =
-    let at-start = c .before .before .before .before in
-    let text = now (at-start .args .text) in
+    let text = now (c .before .before .before .before .args .text) in
     omega (arith, count-read text (c .before .before .if1 .left) (c .before .decimal .ensures), count-below text)
 
 returns-2 : tie.Need-returns-2
-returns-2 c =
-    let at-start = c .before .before .before .before in
-    let text = now (at-start .args .text) in
-    let read = count-read text (c .before .before .if1 .left) (c .before .decimal .ensures) in
-    (read, omega (arith, count-below text))
+returns-2 c = count-read (now (c .before .before .before .before .args .text)) (c .before .before .if1 .left) (c .before .decimal .ensures)
 
 pub count-of-spec : {M : Type 1} → statement M
 count-of-spec = tie.close (tie.spec returns decimal-requires cast-result returns-2)

@@ -1,21 +1,88 @@
--- `demo::script::obey` meets its contract: each test picks the step.
+-- `demo::script::obey` meets its contract: what the line asks for is done.
 -- Assumes nothing.
-use borrow.Author.Tests.{not-true, not-false}
+use Prim.Native.Nat.{ℕ}
 use denote.Ref.{now}
-use mathlib.Core.Bool.{true}
-use mathlib.Core.Path.{_≡_, sym, _∙_}
-use Rattle.demo.specs.Columns.{allPrintable}
-use Rattle.demo.proofs.Lines.{is-long, is-empty, is-octet, is-remark, is-command}
+use lib.ListN.{length, length-drop}
+use mathlib.Core.List.{List}
+use mathlib.Core.Path.{_≡_, sym, ap, subst, _∙_}
+use native.Mathlib.Omega.{arith}
+use Rattle.demo.specs.declared.play.Stage.{Stage}
+use Rattle.demo.specs.declared.script.Asked.{Asked}
+use Rattle.demo.specs.Acts.{passing, keeping, noising, doneFor, obeyed}
+use Rattle.demo.proofs.Lines.{Possible, asked-possible}
 use Rattle.demo.proofs.Steps.{stepped-as}
 use borrow.Author.Needs.{needs}
 use Rattle.demo.proofs.script.obey.Statement.{statement}
 use Rattle.demo.proofs.script.obey.Tie as tie
 
-printable : (c : tie.Else3) → allPrintable (now (c .before .before .before .before .before .before .args .line)) ≡ true
-printable c = sym (c .before .all-printable .ensures) ∙ not-false _ (c .if3 .left)
+abbrev stage : tie.After-asked-by → Stage
+stage c = c .before .before .before .args .stage
 
-slice-aggregate-nothing : tie.Need-slice-aggregate-nothing
-slice-aggregate-nothing c = search needs
+abbrev line : tie.After-asked-by → List ℕ
+line c = now (c .before .before .before .args .line)
+
+-- what the line asks for is possible, and is what is to be done
+possible : (c : tie.After-asked-by) {what : Asked} → c .asked-by .result ≡ what → Possible (line c) what
+possible c told = subst (Possible (line c)) (sym (c .asked-by .ensures) ∙ told) (asked-possible (line c))
+
+step : (c : tie.After-asked-by) {what : Asked} → c .asked-by .result ≡ what → doneFor (stage c) (line c) what ≡ obeyed (stage c) (line c)
+unfolding obeyed
+step c told = ap (doneFor (stage c) (line c)) (sym told ∙ c .asked-by .ensures)
+
+asked-by-requires : tie.Need-asked-by-requires
+asked-by-requires c κs = search needs
+
+enum-told : tie.Need-enum-told
+enum-told c = search needs
+
+remark-requires : tie.Need-remark-requires
+remark-requires c κs = (possible (c .before .before .before) (c .before .enum-told .given .1), search needs)
+
+enum-told-2 : tie.Need-enum-told-2
+enum-told-2 c = search needs
+
+rest-requires : tie.Need-rest-requires
+rest-requires c κs = search needs
+
+pass-requires : tie.Need-pass-requires
+pass-requires c κs = search needs
+
+enum-known-what : tie.Need-enum-known-what
+enum-known-what c = search needs
+
+lose-requires : tie.Need-lose-requires
+lose-requires c κs =
+    let bounds = possible (c .before .before .before .before) (c .before .before .what .given .1) in
+    (bounds .0, (bounds .1, search needs))
+
+enum-known-what-2 : tie.Need-enum-known-what-2
+enum-known-what-2 c = search needs
+
+rest-requires-2 : tie.Need-rest-requires-2
+rest-requires-2 c κs = search needs
+
+keep-requires : tie.Need-keep-requires
+keep-requires c κs = (possible (c .before .before .before .before .before) (c .before .before .before .what2 .given .1), search needs)
+
+enum-known-what-3 : tie.Need-enum-known-what-3
+enum-known-what-3 c = search needs
+
+give-requires : tie.Need-give-requires
+give-requires c κs = (possible (c .before .before .before .before) (c .before .before .what3 .given .1), search needs)
+
+enum-told-3 : tie.Need-enum-told-3
+enum-told-3 c = search needs
+
+rest-requires-3 : tie.Need-rest-requires-3
+rest-requires-3 c κs = search needs
+
+noise-requires : tie.Need-noise-requires
+noise-requires c κs =
+    let at : tie.After-asked-by = c .before .before .before .before in
+    (omega (arith, possible at (c .before .before .enum-told3 .given .1), ap length (c .before .rest3 .ensures) ∙ length-drop 6 (line at)), search needs)
+
+enum-known-what-4 : tie.Need-enum-known-what-4
+enum-known-what-4 c = search needs
 
 nothing-requires : tie.Need-nothing-requires
 nothing-requires c κs = search needs
@@ -24,100 +91,83 @@ same-length : tie.Need-same-length
 same-length c = search needs
 
 returns : tie.Need-returns
-returns c =
-    let at-start = c .before .before .before .before .before .before .before .before in
-    stepped-as (is-long (at-start .args .stage) (now (at-start .args .line)) (c .before .before .before .before .before .if1 .taken)) (c .before .before .nothing .ensures)
-
-slice-aggregate-nothing-2 : tie.Need-slice-aggregate-nothing-2
-slice-aggregate-nothing-2 c = search needs
-
-nothing-requires-2 : tie.Need-nothing-requires-2
-nothing-requires-2 c κs = search needs
+returns c = stepped-as (step (c .before .before .before .before .before .before) (c .before .before .before .before .enum-told .given .1)) (c .before .before .remark .ensures)
 
 same-length-2 : tie.Need-same-length-2
 same-length-2 c = search needs
 
 returns-2 : tie.Need-returns-2
 returns-2 c =
-    let at-start = c .before .before .before .before .before .before .before .before .before in
-    stepped-as (is-empty (at-start .args .stage) (now (at-start .args .line)) (c .before .before .before .before .before .before .if1 .left) (c .before .before .before .before .before .if2 .taken)) (c .before .before .nothing2 .ensures)
-
-all-printable-requires : tie.Need-all-printable-requires
-all-printable-requires c κs = search needs
-
-slice-aggregate-nothing-3 : tie.Need-slice-aggregate-nothing-3
-slice-aggregate-nothing-3 c = search needs
-
-nothing-requires-3 : tie.Need-nothing-requires-3
-nothing-requires-3 c κs = search needs
+    let at : tie.After-asked-by = c .before .before .before .before .before .before .before in
+    stepped-as (ap (passing (stage at)) (c .before .before .before .before .rest .ensures) ∙ step at (c .before .before .before .before .before .enum-told2 .given .1)) (c .before .before .pass .ensures)
 
 same-length-3 : tie.Need-same-length-3
 same-length-3 c = search needs
 
 returns-3 : tie.Need-returns-3
-returns-3 c =
-    let at-printable = c .before .before .before .before .before .before in
-    let at-start = at-printable .before .before .before .before .before in
-    stepped-as
-    (is-octet (at-start .args .stage) (now (at-start .args .line)) (at-printable .before .before .if1 .left) (at-printable .before .if2 .left) (sym (at-printable .all-printable .ensures) ∙ not-true _ (c .before .before .before .before .before .if3 .taken)))
-    (c .before .before .nothing3 .ensures)
-
-slice-aggregate-begins : tie.Need-slice-aggregate-begins
-slice-aggregate-begins c = search needs
-
-begins-requires : tie.Need-begins-requires
-begins-requires c κs = search needs
-
-remark-requires : tie.Need-remark-requires
-remark-requires c κs = search needs
+returns-3 c = stepped-as (step (c .before .before .before .before .before .before .before) (c .before .before .before .before .before .what .given .1)) (c .before .before .lose .ensures)
 
 same-length-4 : tie.Need-same-length-4
 same-length-4 c = search needs
 
 returns-4 : tie.Need-returns-4
 returns-4 c =
-    let at : tie.Else3 = c .before .before .before .before .before .before .before in
-    let at-start = c .before .before .before .before .before .before .before .before .before .before .before .before .before in
-    stepped-as
-    (is-remark (at-start .args .stage) (now (at-start .args .line)) (at .before .before .before .if1 .left) (at .before .before .if2 .left) (printable at) (sym (c .before .before .before .before .before .begins .ensures) ∙ c .before .before .before .before .if4 .taken))
-    (c .before .before .remark .ensures)
-
-command-requires : tie.Need-command-requires
-command-requires c κs = search needs
+    let at : tie.After-asked-by = c .before .before .before .before .before .before .before .before in
+    stepped-as (ap (keeping (stage at) (c .before .before .before .before .before .before .what2 .given .0 .0)) (c .before .before .before .before .rest2 .ensures) ∙ step at (c .before .before .before .before .before .before .what2 .given .1)) (c .before .before .keep .ensures)
 
 same-length-5 : tie.Need-same-length-5
 same-length-5 c = search needs
 
 returns-5 : tie.Need-returns-5
-returns-5 c =
-    let at : tie.Else3 = c .before .before .before .before .before .before .before in
-    let at-start = c .before .before .before .before .before .before .before .before .before .before .before .before .before in
-    stepped-as
-    (is-command (at-start .args .stage) (now (at-start .args .line)) (at .before .before .before .if1 .left) (at .before .before .if2 .left) (printable at) (sym (c .before .before .before .before .before .begins .ensures) ∙ c .before .before .before .before .if4 .left))
-    (c .before .before .command .ensures)
+returns-5 c = stepped-as (step (c .before .before .before .before .before .before .before) (c .before .before .before .before .before .what3 .given .1)) (c .before .before .give .ensures)
+
+same-length-6 : tie.Need-same-length-6
+same-length-6 c = search needs
+
+returns-6 : tie.Need-returns-6
+returns-6 c =
+    let at : tie.After-asked-by = c .before .before .before .before .before .before .before in
+    stepped-as (ap (noising (stage at)) (c .before .before .before .before .rest3 .ensures) ∙ step at (c .before .before .before .before .before .enum-told3 .given .1)) (c .before .before .noise .ensures)
+
+same-length-7 : tie.Need-same-length-7
+same-length-7 c = search needs
+
+returns-7 : tie.Need-returns-7
+returns-7 c = stepped-as (step (c .before .before .before .before .before .before .before) (c .before .before .before .before .before .what4 .given .1)) (c .before .before .nothing .ensures)
 
 pub obey-spec : {M : Type 1} → statement M
 obey-spec =
     tie.close
     (tie.spec
-    slice-aggregate-nothing
+    asked-by-requires
+    enum-told
+    remark-requires
+    enum-told-2
+    rest-requires
+    pass-requires
+    enum-known-what
+    lose-requires
+    enum-known-what-2
+    rest-requires-2
+    keep-requires
+    enum-known-what-3
+    give-requires
+    enum-told-3
+    rest-requires-3
+    noise-requires
+    enum-known-what-4
     nothing-requires
     same-length
     returns
-    slice-aggregate-nothing-2
-    nothing-requires-2
     same-length-2
     returns-2
-    all-printable-requires
-    slice-aggregate-nothing-3
-    nothing-requires-3
     same-length-3
     returns-3
-    slice-aggregate-begins
-    begins-requires
-    remark-requires
     same-length-4
     returns-4
-    command-requires
     same-length-5
-    returns-5)
+    returns-5
+    same-length-6
+    returns-6
+    same-length-7
+    returns-7)

@@ -1,0 +1,113 @@
+-- What is done for a line, and what is answered to it. Assumes nothing.
+use Prim.Native.Nat.{ℕ, _-_}
+use mathlib.Core.Path.{_≡_}
+use mathlib.Core.Bool.{cond, _||_}
+use mathlib.Core.List.{List, _++_}
+use lib.Dec.{eqb}
+use lib.ListN.{drop}
+use Rattle.lines.specs.Text.{isHex, hexOctets, decimalText, AtFront, Added}
+use Rattle.numbering.specs.Numbering.{width}
+use Rattle.receiver.specs.declared.Receiver.{Receiver}
+use Rattle.receiver.specs.Receiver.{openCall}
+use Rattle.demo.specs.declared.play.Stage.{Stage}
+use Rattle.demo.specs.declared.acts.Handed.{Handed}
+use Rattle.demo.specs.declared.acts.Stepped.{Stepped}
+use Rattle.demo.specs.declared.script.Asked.{Asked}
+use Rattle.demo.specs.declared.script.Asked.the-variants.{Remark, Pass, Lose, Keep, Give, Noise, Bad}
+use Rattle.demo.specs.declared.script.Why.{Why}
+use Rattle.demo.specs.declared.script.Why.the-variants.{Hex}
+use Rattle.demo.specs.Words.{quoted}
+use Rattle.demo.specs.Columns.{column, phoneText, whyText, cellColumns, silentColumns}
+use Rattle.demo.specs.Ends.{frameRoom, numberIn, phoneAnswer, sealedFrame, phoneAfter, cellAnswer, openedText, frameKept, shelved}
+use Rattle.demo.specs.Script.{asked}
+
+-- what is done for a line: the stage afterwards, and the answer
+pub record Step : Type 0 where
+  pub stage : Stage
+  pub said : List ℕ
+
+-- the cell's columns where it is handed octets: the number is shown where nothing is refused, or where it is given all the same
+unfoldable pub handedColumns : Receiver → List ℕ → List ℕ
+handedColumns cell octets =
+    let answer = cellAnswer cell octets in
+    let given = eqb (answer .refusal) 0 || openCall width cell octets frameRoom .candidateWith (answer .refusal) in
+    cellColumns given (answer .refusal) (numberIn answer) (answer .lent .receiver .numbering .next) (openedText answer)
+
+-- the phone seals a text, and the box hands the frame to the cell
+unfoldable pub passing : Stage → List ℕ → Step
+passing stage text =
+    let sealed = phoneAnswer (stage .phone) text in
+    let frame = sealedFrame sealed in
+    record {
+      stage = record { phone = sealed .lent .sender; cell = cellAnswer (stage .cell) frame .lent .receiver; shelf = stage .shelf };
+      said = column (phoneText (sealed .refusal) (numberIn sealed)) ++ (column (quoted "passed") ++ handedColumns (stage .cell) frame);
+    }
+
+-- the phone seals so many frames, one at least, and the box loses them all; the phone's column shows the last of them
+unfoldable pub losing : Stage → ℕ → Step
+losing stage count =
+    let sealed = phoneAnswer (phoneAfter (count - 1) (stage .phone)) (quoted "lost") in
+    record {
+      stage = record { phone = sealed .lent .sender; cell = stage .cell; shelf = stage .shelf };
+      said = column (phoneText (sealed .refusal) (numberIn sealed)) ++ (column (quoted "lost " ++ decimalText count) ++ silentColumns (stage .cell .numbering .next));
+    }
+
+-- the phone seals a text, and the box keeps the frame at place k
+unfoldable pub keeping : Stage → ℕ → List ℕ → Step
+keeping stage k text =
+    let sealed = phoneAnswer (stage .phone) text in
+    record {
+      stage = record { phone = sealed .lent .sender; cell = stage .cell; shelf = shelved (stage .shelf) k (sealedFrame sealed) };
+      said = column (phoneText (sealed .refusal) (numberIn sealed)) ++ (column (quoted "kept " ++ decimalText k) ++ silentColumns (stage .cell .numbering .next));
+    }
+
+-- the box hands the frame kept at place k to the cell, and still keeps it
+unfoldable pub giving : Stage → ℕ → Step
+giving stage k =
+    let frame = frameKept (stage .shelf) k in
+    record {
+      stage = record { phone = stage .phone; cell = cellAnswer (stage .cell) frame .lent .receiver; shelf = stage .shelf };
+      said = column (quoted "-") ++ (column (quoted "gave " ++ decimalText k) ++ handedColumns (stage .cell) frame);
+    }
+
+-- the box hands octets of its own to the cell
+unfoldable pub handing : Stage → List ℕ → Step
+handing stage octets = record {
+  stage = record { phone = stage .phone; cell = cellAnswer (stage .cell) octets .lent .receiver; shelf = stage .shelf };
+  said = column (quoted "-") ++ (column (quoted "handed") ++ handedColumns (stage .cell) octets);
+}
+
+-- nothing is done for a bad line: a question mark, and the word that says why
+unfoldable pub nothing : Stage → Why → Step
+nothing stage why = record { stage = stage; said = column (quoted "?") ++ (column (whyText why) ++ silentColumns (stage .cell .numbering .next)) }
+
+-- the octets that the box hands to the cell are given as pairs of hex digits
+unfoldable pub noising : Stage → List ℕ → Step
+noising stage text = cond (isHex text) (handing stage (hexOctets text)) (nothing stage Hex)
+
+-- a remark is answered by itself
+unfoldable pub remarking : Stage → List ℕ → Step
+remarking stage line = record { stage = stage; said = line ++ quoted "\n" }
+
+-- what is done for a line that asks so: the text of `pass` stands from place 5 on, that of `keep` from 7, the digits of `noise` from 6
+abbrev pub doneFor : Stage → List ℕ → Asked → Step
+doneFor stage line Remark = remarking stage line
+doneFor stage line Pass = passing stage (drop 5 line)
+doneFor stage line (Lose count) = losing stage count
+doneFor stage line (Keep k) = keeping stage k (drop 7 line)
+doneFor stage line (Give k) = giving stage k
+doneFor stage line Noise = noising stage (drop 6 line)
+doneFor stage line (Bad why) = nothing stage why
+
+unfoldable pub obeyed : Stage → List ℕ → Step
+obeyed stage line = doneFor stage line (asked line)
+
+-- a step done: the stage afterwards, and the answer at the front of an output
+pub record StepCall (step : Step) (before : List ℕ) (stepped : Stepped) (output : List ℕ) : Type 0 where
+  pub stage-is : stepped .stage ≡ step .stage
+  pub said-is : AtFront (step .said) before (stepped .written) output
+
+-- octets handed to the cell: the cell afterwards, and its columns in an output
+pub record HandCall (cell : Receiver) (octets before : List ℕ) (handed : Handed) (output : List ℕ) : Type 0 where
+  pub cell-is : handed .cell ≡ cellAnswer cell octets .lent .receiver
+  pub columns-are : Added (handedColumns cell octets) before 22 (handed .end) output
