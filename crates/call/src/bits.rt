@@ -4,17 +4,13 @@ use crate::fields::Cursor;
 use crate::tell;
 use crate::tell::Answer;
 
-pub(crate) fn answer(line: &[u8], name: &[u8], cursor: Cursor) -> Answer {
-    if check::same(name, b"cut") {
-        return Answer::Told(cut(line, cursor));
+pub(crate) fn answer(line: &[u8], cursor: Cursor) -> Answer {
+    match fields::place(line, b"cut size first_bits") {
+        0 => Answer::Told(cut(line, cursor)),
+        1 => Answer::Told(size(line, cursor)),
+        2 => Answer::Told(first_bits(line, cursor)),
+        _ => Answer::NotMine,
     }
-    if check::same(name, b"size") {
-        return Answer::Told(size(line, cursor));
-    }
-    if check::same(name, b"first_bits") {
-        return Answer::Told(first_bits(line, cursor));
-    }
-    Answer::NotMine
 }
 
 // cut OCTETS START LENGTH ROOM
