@@ -4,23 +4,15 @@ use crate::fields::Cursor;
 use crate::tell;
 use crate::tell::Answer;
 
-pub(crate) fn answer(line: &[u8], name: &[u8], cursor: Cursor) -> Answer {
-    if check::same(name, b"cut") {
-        return Answer::Told(cut(line, cursor));
+pub(crate) fn answer(line: &[u8], cursor: Cursor) -> Answer {
+    match fields::place(line, b"cut size first_bits octet_or_zero xor") {
+        0 => Answer::Told(cut(line, cursor)),
+        1 => Answer::Told(size(line, cursor)),
+        2 => Answer::Told(first_bits(line, cursor)),
+        3 => Answer::Told(octet_or_zero(line, cursor)),
+        4 => Answer::Told(xor(line, cursor)),
+        _ => Answer::NotMine,
     }
-    if check::same(name, b"size") {
-        return Answer::Told(size(line, cursor));
-    }
-    if check::same(name, b"first_bits") {
-        return Answer::Told(first_bits(line, cursor));
-    }
-    if check::same(name, b"octet_or_zero") {
-        return Answer::Told(octet_or_zero(line, cursor));
-    }
-    if check::same(name, b"xor") {
-        return Answer::Told(xor(line, cursor));
-    }
-    Answer::NotMine
 }
 
 // cut OCTETS START LENGTH ROOM

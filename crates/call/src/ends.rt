@@ -7,20 +7,14 @@ use crate::tell::Answer;
 use receiver::Receiver;
 use sender::Sender;
 
-pub(crate) fn answer(line: &[u8], name: &[u8], cursor: Cursor) -> Answer {
-    if check::same(name, b"open_sender") {
-        return Answer::Told(open_end(line, cursor, End::Sender));
+pub(crate) fn answer(line: &[u8], cursor: Cursor) -> Answer {
+    match fields::place(line, b"open_sender open_receiver seal open") {
+        0 => Answer::Told(open_end(line, cursor, End::Sender)),
+        1 => Answer::Told(open_end(line, cursor, End::Receiver)),
+        2 => Answer::Told(seal(line, cursor)),
+        3 => Answer::Told(open(line, cursor)),
+        _ => Answer::NotMine,
     }
-    if check::same(name, b"open_receiver") {
-        return Answer::Told(open_end(line, cursor, End::Receiver));
-    }
-    if check::same(name, b"seal") {
-        return Answer::Told(seal(line, cursor));
-    }
-    if check::same(name, b"open") {
-        return Answer::Told(open(line, cursor));
-    }
-    Answer::NotMine
 }
 
 enum End {

@@ -49,18 +49,47 @@ pub(crate) struct LastField {
     pub ok: bool,
 }
 
-// Octets, of which `count` are meant.
+// Octets, of which `count` are meant. Who reads them lends `&octets[..count]` to another function, which makes the call: there the prover knows them
+// as any octets.
 pub(crate) struct OctetsField {
     pub octets: [u8; 2048],
     pub count: usize,
     pub next: Cursor,
 }
 
-// The first field of a line.
-pub(crate) fn name(line: &[u8]) -> &[u8] {
+// The first field of a line, the name of its call.
+fn name(line: &[u8]) -> &[u8] {
     let start = 0;
     let end = bytes::scan::find(line, start, line.len(), b' ');
     &line[start..end]
+}
+
+// The place of that name in a list of names with single spaces between, from 0; as many as there are where it is none of them.
+pub(crate) fn place(line: &[u8], names: &[u8]) -> usize {
+    let wanted = name(line);
+    let mut place = 0;
+    let mut start = 0;
+    while start < names.len() {
+        let end = bytes::scan::find(names, start, names.len(), b' ');
+        if check::same(wanted, &names[start..end]) {
+            return place;
+        }
+        place += 1;
+        if end == names.len() {
+            return place;
+        }
+        start = end + 1;
+    }
+    place
+}
+
+// Behind the name.
+pub(crate) fn start(line: &[u8]) -> Cursor {
+    let first = name(line);
+    Cursor {
+        at: first.len(),
+        ok: true,
+    }
 }
 
 // The field behind the cursor, past one space. Behind the last field there is none: an empty one stands for it, which no reader takes.

@@ -5,17 +5,13 @@ use crate::tell;
 use crate::tell::Answer;
 use frames::Header;
 
-pub(crate) fn answer(line: &[u8], name: &[u8], cursor: Cursor) -> Answer {
-    if check::same(name, b"look") {
-        return Answer::Told(look(line, cursor));
+pub(crate) fn answer(line: &[u8], cursor: Cursor) -> Answer {
+    match fields::place(line, b"look header put_header") {
+        0 => Answer::Told(look(line, cursor)),
+        1 => Answer::Told(header(line, cursor)),
+        2 => Answer::Told(put_header(line, cursor)),
+        _ => Answer::NotMine,
     }
-    if check::same(name, b"header") {
-        return Answer::Told(header(line, cursor));
-    }
-    if check::same(name, b"put_header") {
-        return Answer::Told(put_header(line, cursor));
-    }
-    Answer::NotMine
 }
 
 // look FRAME

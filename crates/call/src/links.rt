@@ -6,17 +6,13 @@ use crate::tell;
 use crate::tell::Answer;
 use link::Link;
 
-pub(crate) fn answer(line: &[u8], name: &[u8], cursor: Cursor) -> Answer {
-    if check::same(name, b"open_link") {
-        return Answer::Told(open_link(line, cursor));
+pub(crate) fn answer(line: &[u8], cursor: Cursor) -> Answer {
+    match fields::place(line, b"open_link link_can_arise cipher") {
+        0 => Answer::Told(open_link(line, cursor)),
+        1 => Answer::Told(can_arise(line, cursor)),
+        2 => Answer::Told(cipher(line, cursor)),
+        _ => Answer::NotMine,
     }
-    if check::same(name, b"link_can_arise") {
-        return Answer::Told(can_arise(line, cursor));
-    }
-    if check::same(name, b"cipher") {
-        return Answer::Told(cipher(line, cursor));
-    }
-    Answer::NotMine
 }
 
 // open_link KEY IOV SAPI DIRECTION

@@ -9,33 +9,28 @@ mod numbers;
 mod states;
 mod tell;
 
-use fields::Cursor;
 use libc::STDIN_FILENO;
 use tell::Answer;
 
 // The answer to a line: the modules are asked one after the other whether its name is one of theirs.
 fn answer(line: &[u8]) -> bool {
-    let name = fields::name(line);
-    let cursor = Cursor {
-        at: name.len(),
-        ok: true,
-    };
-    if let Answer::Told(told) = ciphers::answer(line, name, cursor) {
+    let cursor = fields::start(line);
+    if let Answer::Told(told) = ciphers::answer(line, cursor) {
         return told;
     }
-    if let Answer::Told(told) = bits::answer(line, name, cursor) {
+    if let Answer::Told(told) = bits::answer(line, cursor) {
         return told;
     }
-    if let Answer::Told(told) = numbers::answer(line, name, cursor) {
+    if let Answer::Told(told) = numbers::answer(line, cursor) {
         return told;
     }
-    if let Answer::Told(told) = headers::answer(line, name, cursor) {
+    if let Answer::Told(told) = headers::answer(line, cursor) {
         return told;
     }
-    if let Answer::Told(told) = links::answer(line, name, cursor) {
+    if let Answer::Told(told) = links::answer(line, cursor) {
         return told;
     }
-    if let Answer::Told(told) = ends::answer(line, name, cursor) {
+    if let Answer::Told(told) = ends::answer(line, cursor) {
         return told;
     }
     tell::bad()

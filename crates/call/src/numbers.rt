@@ -5,17 +5,13 @@ use crate::states;
 use crate::tell;
 use crate::tell::Answer;
 
-pub(crate) fn answer(line: &[u8], name: &[u8], cursor: Cursor) -> Answer {
-    if check::same(name, b"start") {
-        return Answer::Told(start(line, cursor));
+pub(crate) fn answer(line: &[u8], cursor: Cursor) -> Answer {
+    match fields::place(line, b"start numbering_can_arise number") {
+        0 => Answer::Told(start(line, cursor)),
+        1 => Answer::Told(can_arise(line, cursor)),
+        2 => Answer::Told(number(line, cursor)),
+        _ => Answer::NotMine,
     }
-    if check::same(name, b"numbering_can_arise") {
-        return Answer::Told(can_arise(line, cursor));
-    }
-    if check::same(name, b"number") {
-        return Answer::Told(number(line, cursor));
-    }
-    Answer::NotMine
 }
 
 // start

@@ -129,7 +129,8 @@ fn xors() -> Vec<String> {
             lines.extend(rooms.map(|room| xor(one, other, room)));
         }
     }
-    lines.extend([2_047, 2_048, 65_600].map(|room| xor(2_048, 2_048, room)));
+    lines.extend([2_047, 2_048, 65_600].map(|room| xor(2_048, 2_000, room)));
+    lines.extend([1_999, 2_000].map(|room| xor(2_000, 2_048, room)));
     for bit in 0..8 {
         lines.push(format!("xor {:02X} FF 1", 1 << bit));
         lines.push(format!("xor 00 {:02X} 1", 1 << bit));
