@@ -43,7 +43,7 @@ else
     build_native
     ours() { "$room/native"; }
 fi
-second() { second/target/release/second bench "$1" "$2"; }
+second() { second/target/release/second benchmark "$1" "$2"; }
 
 # The least of five times of a command, in nanoseconds; what it prints goes to $room/said.
 least() {

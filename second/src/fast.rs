@@ -108,7 +108,7 @@ pub fn gea4(tables: &Tables, key: &[u8; 16], input: u32, direction: bool, m: usi
 }
 
 /// The exclusive or of all octets of GEA4 for INPUT 0, 1, 2, ..., so that none can be left out.
-pub fn bench(m: usize, count: u32) -> u8 {
+pub fn benchmark(m: usize, count: u32) -> u8 {
     let tables = Tables::of_equations();
     let key = std::array::from_fn(|place| place as u8);
     (0..count)

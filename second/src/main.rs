@@ -43,7 +43,7 @@ second huge call       an input for `call` with lines of a megabyte
 second huge walk       an input for `walk` with lines of a megabyte, up to the last number
 second huge demo       an input for `demo` with lines of a megabyte
 second vectors DIR     a call and its answer for every set of DIR
-second bench M COUNT   the exclusive or of COUNT outputs of GEA4, M octets each";
+second benchmark M COUNT   the exclusive or of COUNT outputs of GEA4, M octets each";
 
 fn main() -> ExitCode {
     let arguments: Vec<String> = env::args().skip(1).collect();
@@ -74,16 +74,16 @@ fn output(words: &[&str]) -> Result<Vec<u8>, String> {
         ["huge", "walk"] => Ok(cases::huge::walk()),
         ["huge", "demo"] => Ok(cases::huge::demo()),
         ["vectors", folder] => Ok(check::report(Path::new(folder))?.into()),
-        ["bench", m, count] => bench(m, count),
+        ["benchmark", m, count] => benchmark(m, count),
         _ => Err(USAGE.to_string()),
     }
 }
 
-fn bench(m: &str, count: &str) -> Result<Vec<u8>, String> {
+fn benchmark(m: &str, count: &str) -> Result<Vec<u8>, String> {
     let m = m.parse().ok().filter(|m| (1..=65_536).contains(m));
     let m = m.ok_or("M is a number from 1 to 65536")?;
     let count = count.parse().map_err(|_| "COUNT is a number of 32 bits")?;
-    Ok(format!("{:02X}\n", fast::bench(m, count)).into())
+    Ok(format!("{:02X}\n", fast::benchmark(m, count)).into())
 }
 
 fn input() -> Result<Vec<u8>, String> {

@@ -6,7 +6,7 @@ use mathlib.Core.List.{List, [], _∷_, _++_}
 use lib.Dec.{eqb, ltb}
 use lib.ListN.{length, take, drop}
 use Rattle.refusals.specs.Refusal.{Row}
-use Rattle.refusals.specs.Call.{Call, none, front}
+use Rattle.refusals.specs.Call.{Call, noCandidate, front}
 use Rattle.lines.specs.Digits.{digitValue, allDigits}
 
 -- the one refusal for want of room: 4 where an output has less than `room` octets
@@ -15,7 +15,7 @@ roomOrder room output = record { number = 4; holds = ltb (length output) room } 
 
 -- a call that puts a text to the front of one lent output, and hands out how many octets the text has
 abbrev pub putsText : List Row → List ℕ → List ℕ → Call (List ℕ)
-putsText order text output = record { order = order; numbers = length text ∷ []; candidateWith = none; before = output; after = front text output }
+putsText order text output = record { order = order; numbers = length text ∷ []; candidateWith = noCandidate; before = output; after = front text output }
 
 -- lines::put_text: every output with room for the text takes it
 abbrev pub putTextCall : List ℕ → List ℕ → Call (List ℕ)

@@ -7,4 +7,3 @@ pub mod Arrival
 pub mod Marks
 pub mod Arising
 pub mod Means
-pub mod Examples

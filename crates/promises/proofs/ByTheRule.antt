@@ -49,7 +49,7 @@ module _ (w : ℕ) (narrow : w ≤ 512) (receiver : Receiver) (octets before : L
   unfolding rows openOrder lookOrder rowAt first
   numbered passed = record {
     can-arise = not-false _ (passed 0 (lit< tt));
-    looked = simp (passed 1 (lit< tt), passed 2 (lit< tt), passed 3 (lit< tt));
+    passes-look = simp (passed 1 (lit< tt), passed 2 (lit< tt), passed 3 (lit< tt));
     of-link = not-false _ (passed 4 (lit< tt));
   }
 
@@ -60,15 +60,15 @@ module _ (w : ℕ) (narrow : w ≤ 512) (receiver : Receiver) (octets before : L
   passed-five : IsNumbered w receiver octets → (k : ℕ) → k < 5 → rowAt rows k .holds ≡ false
   unfolding rows openOrder lookOrder rowAt
   passed-five is zero below = rw (is .can-arise)
-  passed-five is (suc zero) below = look-rows (is .looked) 0
-  passed-five is (suc (suc zero)) below = look-rows (is .looked) 1
-  passed-five is (suc (suc (suc zero))) below = look-rows (is .looked) 2
+  passed-five is (suc zero) below = look-rows (is .passes-look) 0
+  passed-five is (suc (suc zero)) below = look-rows (is .passes-look) 1
+  passed-five is (suc (suc (suc zero))) below = look-rows (is .passes-look) 2
   passed-five is (suc (suc (suc (suc zero)))) below = rw (is .of-link)
   passed-five is (suc (suc (suc (suc (suc k))))) below = absurd (omega arith)
 
   module _ (is : IsNumbered w receiver octets) where
     sent : N < 512
-    sent = omega (arith, header-of-range octets each (is .looked) .sent-most)
+    sent = omega (arith, header-of-range octets each (is .passes-look) .sent-most)
 
     -- the candidate, where the paper has one
     found : (n : ℕ) → Candidate w v N n → (isBelow0 w v N ≡ false) × (n ≡ candidateOf w receiver octets)
@@ -181,10 +181,10 @@ module _ (w : ℕ) (narrow : w ≤ 512) (receiver : Receiver) (octets before : L
   open-refusals : OpenRefusals w receiver octets before refusal number
   unfolding rows openOrder lookOrder candidateOrder rowAt
   open-refusals = record {
-    start = both-ways (exactly .each 5 (lit< tt)) (start-at w narrow receiver octets before each);
-    end = both-ways (exactly .each 6 (lit< tt)) (end-at w narrow receiver octets before each);
-    repeat = both-ways (exactly .each 7 (lit< tt)) (repeat-at w narrow receiver octets before each);
-    room = both-ways (exactly .each 8 (lit< tt)) (room-at w narrow receiver octets before each);
+    start-when = both-ways (exactly .each 5 (lit< tt)) (start-at w narrow receiver octets before each);
+    end-when = both-ways (exactly .each 6 (lit< tt)) (end-at w narrow receiver octets before each);
+    repeat-when = both-ways (exactly .each 7 (lit< tt)) (repeat-at w narrow receiver octets before each);
+    room-when = both-ways (exactly .each 8 (lit< tt)) (room-at w narrow receiver octets before each);
     given = given;
   }
     where
@@ -252,7 +252,7 @@ module _ (w : ℕ) (wide : 0 < w) (narrow : w ≤ 512) (receiver : Receiver) (oc
   frame-is : octets ≡ frameAt (receiver .link) number (take size after)
   unfolding frameAt clear
   frame-is =
-      sym (frame-of-octets octets each (its .numbered .looked))
+      sym (frame-of-octets octets each (its .numbered .passes-look))
       ∙ ap₂ frame (sym header-is) (sym (ap (ciphered (receiver .link) number) taken ∙ ciphered-twice (receiver .link) number (payloadOf octets)))
 
   moved : later ≡ afterAccepting w receiver number
@@ -266,7 +266,7 @@ module _ (w : ℕ) (wide : 0 < w) (narrow : w ≤ 512) (receiver : Receiver) (oc
         is-candidate = its .is-candidate;
         before-end = its .before-end;
         not-repeat = fresh;
-        size-is = ap (λ (k : ℕ). k + 6) size-is ∙ length-payload octets each (its .numbered .looked);
+        size-is = ap (λ (k : ℕ). k + 6) size-is ∙ length-payload octets each (its .numbered .passes-look);
         frame-is = frame-is;
         past = ap (drop size) output-is ∙ drop-at clear (drop (length clear) before) size length-clear ∙ ap (λ (k : ℕ). drop k before) length-clear;
         new = λ above. ap (λ (s : Numbering). s .next) (numbering-is ∙ accepted-new w (receiver .numbering) number above);

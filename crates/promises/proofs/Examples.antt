@@ -22,10 +22,10 @@ use Rattle.link.specs.Link.{isService, isDirection, linkCanArise, linkOrder, li
 use Rattle.link.proofs.Links.{opened-link}
 use Rattle.link.proofs.Frames.{ciphered-twice, length-ciphered}
 use Rattle.sender.specs.declared.Sender.{Sender}
-use Rattle.sender.specs.Sender.{newSender, afterFrame, openSenderCall, senderCanArise, sealCall}
+use Rattle.sender.specs.Sender.{senderOf, newSender, afterFrame, openSenderCall, senderCanArise, sealCall}
 use Rattle.sender.proofs.Sealing.{seal-0, seal-3-empty}
 use Rattle.receiver.specs.declared.Receiver.{Receiver}
-use Rattle.receiver.specs.Receiver.{newReceiver, afterAccepting, openReceiverCall, receiverCanArise, openCall}
+use Rattle.receiver.specs.Receiver.{receiverOf, newReceiver, afterAccepting, openReceiverCall, receiverCanArise, openCall}
 use Rattle.receiver.proofs.Opening.{open-looked}
 use Rattle.receiver.proofs.Laws.{open-new, open-repeat, open-no-room}
 use Rattle.promises.specs.Ends.{SealCall, OpenCall, SentFrame, frameSealed, withSealed, Sends, no-more, seal, IsOneOf, here, there, Events, arrival, refused, arrivals, AllInWindow, benchSending, benchReceiving}
@@ -49,10 +49,10 @@ module _ (key : List ℕ) (iov sapi direction : ℕ) (valid : isKey key ≡ true
 
   -- the ends, opened
   abbrev sender-at : ℕ → Sender
-  sender-at n = record { link = link; next = n }
+  sender-at n = senderOf link n
 
   abbrev receiver-at : Numbering → Receiver
-  receiver-at numbering = record { link = link; numbering = numbering }
+  receiver-at numbering = receiverOf link numbering
 
   nothing-refused : first (linkOrder key sapi direction) ≡ 0
   unfolding first linkOrder

@@ -45,7 +45,7 @@ pub record OpenedByTheRule (w : ℕ) (receiver : Receiver) (octets before : List
 -- a frame comes to be numbered: 12, 5, 6, 7 and 8 do not apply
 pub record IsNumbered (w : ℕ) (receiver : Receiver) (octets : List ℕ) : Type 0 where
   pub can-arise : receiverCanArise w receiver ≡ true
-  pub looked : first (lookOrder octets) ≡ 0
+  pub passes-look : first (lookOrder octets) ≡ 0
   pub of-link : isOfLink (receiver .link) octets ≡ true
 
 -- and n is its candidate, below 2^27
@@ -57,13 +57,13 @@ pub record IsNumberedAs (w : ℕ) (receiver : Receiver) (octets : List ℕ) (n :
 -- which of 9, 10, 11 and 4 an open call answers, exactly when
 pub record OpenRefusals (w : ℕ) (receiver : Receiver) (octets before : List ℕ) (refusal number : ℕ) : Type 0 where
   -- 9 START: no number is the candidate, since it would be below 0
-  pub start : (refusal ≡ 9) ↔ (IsNumbered w receiver octets × ((n : ℕ) → Candidate w (receiver .numbering .next) (headerOf octets .sent) n → ⊥))
+  pub start-when : (refusal ≡ 9) ↔ (IsNumbered w receiver octets × ((n : ℕ) → Candidate w (receiver .numbering .next) (headerOf octets .sent) n → ⊥))
   -- 10 END: the candidate is 2^27 or more
-  pub end : (refusal ≡ 10) ↔ (IsNumbered w receiver octets × ((n : ℕ) × Candidate w (receiver .numbering .next) (headerOf octets .sent) n × (end ≤ n)))
+  pub end-when : (refusal ≡ 10) ↔ (IsNumbered w receiver octets × ((n : ℕ) × Candidate w (receiver .numbering .next) (headerOf octets .sent) n × (end ≤ n)))
   -- 11 REPEAT: the candidate was accepted already
-  pub repeat : (refusal ≡ 11) ↔ ((n : ℕ) × IsNumberedAs w receiver octets n × (isAccepted (receiver .numbering) n ≡ true))
+  pub repeat-when : (refusal ≡ 11) ↔ ((n : ℕ) × IsNumberedAs w receiver octets n × (isAccepted (receiver .numbering) n ≡ true))
   -- 4 ROOM: it was not, and the output is shorter than the payload
-  pub room : (refusal ≡ 4) ↔ ((n : ℕ) × IsNumberedAs w receiver octets n × (isAccepted (receiver .numbering) n ≡ false) × (length before < length (payloadOf octets)))
+  pub room-when : (refusal ≡ 4) ↔ ((n : ℕ) × IsNumberedAs w receiver octets n × (isAccepted (receiver .numbering) n ≡ false) × (length before < length (payloadOf octets)))
   -- the number that is given with 11 and 4 is the candidate
   pub given : (refusal ≡ 11) ⊎ (refusal ≡ 4) → Candidate w (receiver .numbering .next) (headerOf octets .sent) number
 

@@ -28,7 +28,7 @@ use Rattle.link.specs.declared.Link.{Link}
 use Rattle.link.specs.Link.{linkCanArise, linkOrder, linkOf}
 use Rattle.link.proofs.Links.{link-says, link-says-not, says-no-link, service-most, direction-most}
 use Rattle.receiver.specs.declared.Receiver.{Receiver}
-use Rattle.receiver.specs.Receiver.{newReceiver, afterAccepting, Opening, openReceiverCall, receiverCanArise, isOfLink, candidateOf, openOrder, openCall, ReceiverCannotArise, no-service, no-direction, no-numbering, ReceiverArises, opened, accepted-frame}
+use Rattle.receiver.specs.Receiver.{receiverOf, newReceiver, afterAccepting, Opening, openReceiverCall, receiverCanArise, isOfLink, candidateOf, openOrder, openCall, ReceiverCannotArise, no-service, no-direction, no-numbering, ReceiverArises, opened, accepted-frame}
 use Rattle.receiver.proofs.Opening.{receiver-says, open-0}
 use Rattle.receiver.proofs.Laws.{opened-can-arise}
 
@@ -72,17 +72,13 @@ module _ (w : ℕ) (wide : 0 < w) (narrow : w ≤ 512) (receiver : Receiver) (oc
       ap (λ (lent : Opening). receiverCanArise w (lent .receiver)) (answered .lent-is)
       ∙ simp (said .0, accepted-can-arise w wide (receiver .numbering) (said .1) n inside (leb-false _ _ (row 6)))
 
--- the receiver of a link with this numbering
-abbrev at : Link → Numbering → Receiver
-at link numbering = record { link = link; numbering = numbering }
-
 zero-each : AreOctets (0 ∷ [])
 zero-each zero = lit< tt
 zero-each (suc i) = lit< tt
 
 module _ (w : ℕ) (link : Link) (good : linkCanArise link ≡ true) (sixteen : length (link .key) ≡ 16) where
   -- a link of 16 octets that can arise is opened by itself
-  first-arises : ReceiverArises w (at link start)
+  first-arises : ReceiverArises w (receiverOf link start)
   unfolding first linkOrder linkCanArise linkOf newReceiver
   first-arises =
       let whole : linkOf (link .key) (link .iov) (link .sapi) (link .direction) ≡ link =
@@ -134,7 +130,7 @@ module _ (w : ℕ) (link : Link) (good : linkCanArise link ≡ true) (sixteen : 
     passed : Passed w state N
     passed = step-passed w state N step
 
-    fit : receiverCanArise w (at link state) ≡ true
+    fit : receiverCanArise w (receiverOf link state) ≡ true
     unfolding receiverCanArise
     fit = simp (good, passed .can)
 
@@ -147,19 +143,19 @@ module _ (w : ℕ) (link : Link) (good : linkCanArise link ≡ true) (sixteen : 
         ∙ sym (candidate-decides w state N (passed .can) (omega (arith, passed .sent)))
         ∙ sym (step .refusal-is)
 
-    after-is : accepted w state (candidateOf w (at link state) (one-octet N)) ≡ after
+    after-is : accepted w state (candidateOf w (receiverOf link state) (one-octet N)) ≡ after
     unfolding candidateOf
     after-is = ap (λ (n : ℕ). accepted w state (candidate w (state .next) n)) sent ∙ sym (step .lent-is)
 
-    next-arises : ReceiverArises w (at link state) → ReceiverArises w (at link after)
+    next-arises : ReceiverArises w (receiverOf link state) → ReceiverArises w (receiverOf link after)
     unfolding afterAccepting
     next-arises before =
-        subst (λ (n : Numbering). ReceiverArises w (at link n)) after-is
+        subst (λ (n : Numbering). ReceiverArises w (receiverOf link n)) after-is
         (accepted-frame (one-octet N) (0 ∷ []) (octets-each N (passed .sent)) before
-        (done (openCall w (at link state) (one-octet N) (0 ∷ []))
-        (open-0 w (at link state) (one-octet N) (0 ∷ []) fit (nothing N (passed .sent)) (ours N (passed .sent)) numbered (room N (passed .sent)))))
+        (done (openCall w (receiverOf link state) (one-octet N) (0 ∷ []))
+        (open-0 w (receiverOf link state) (one-octet N) (0 ∷ []) fit (nothing N (passed .sent)) (ours N (passed .sent)) numbered (room N (passed .sent)))))
 
-  each-arises : {numbering : Numbering} → Arises w numbering → ReceiverArises w (at link numbering)
+  each-arises : {numbering : Numbering} → Arises w numbering → ReceiverArises w (receiverOf link numbering)
   each-arises at-start = first-arises
   each-arises (by-step N before step) = next-arises N step (each-arises before)
 

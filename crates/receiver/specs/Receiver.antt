@@ -8,18 +8,23 @@ use lib.ListN.{length}
 use Rattle.refusals.specs.Refusal.{Row}
 use Rattle.refusals.specs.Call.{Call, Answered, front, makes}
 use Rattle.frames.specs.Frame.{AreOctets, headerOf, payloadOf, lookOrder}
+use Rattle.numbering.specs.declared.Numbering.{Numbering}
 use Rattle.numbering.specs.Numbering.{start, canArise, CannotArise, candidate, candidateOrder, accepted}
 use Rattle.link.specs.declared.Link.{Link}
 use Rattle.link.specs.Link.{isService, isDirection, linkCanArise, linkOrder, noLink, linkOf, ciphered}
 use Rattle.receiver.specs.declared.Receiver.{Receiver}
 
+-- the receiver of a link with this numbering
+abbrev pub receiverOf : Link → Numbering → Receiver
+receiverOf link numbering = record { link = link; numbering = numbering }
+
 -- a new receiver on a link: it has accepted nothing
 unfoldable pub newReceiver : Link → Receiver
-newReceiver link = record { link = link; numbering = start }
+newReceiver link = receiverOf link start
 
 -- the receiver after accepting number n
 unfoldable pub afterAccepting : ℕ → Receiver → ℕ → Receiver
-afterAccepting w receiver n = record { link = receiver .link; numbering = accepted w (receiver .numbering) n }
+afterAccepting w receiver n = receiverOf (receiver .link) (accepted w (receiver .numbering) n)
 
 -- receiver::open_receiver
 abbrev pub openReceiverCall : List ℕ → ℕ → ℕ → ℕ → Call Receiver

@@ -23,16 +23,16 @@ pub record Call (Lent : Type 0) : Type 0 where
   pub after : Lent
 
 -- no candidate is given, whatever the refusal
-abbrev pub none : ℕ → Bool
-none refusal = false
+abbrev pub noCandidate : ℕ → Bool
+noCandidate refusal = false
 
 -- a call that hands out numbers and is lent nothing
 abbrev pub tells : List Row → List ℕ → Call (Unit {0})
-tells order numbers = record { order = order; numbers = numbers; candidateWith = none; before = tt; after = tt }
+tells order numbers = record { order = order; numbers = numbers; candidateWith = noCandidate; before = tt; after = tt }
 
 -- a call that puts its result to the front of one lent output
 abbrev pub puts : List Row → List ℕ → List ℕ → Call (List ℕ)
-puts order result output = record { order = order; numbers = []; candidateWith = none; before = output; after = front result output }
+puts order result output = record { order = order; numbers = []; candidateWith = noCandidate; before = output; after = front result output }
 
 -- two lent outputs
 pub record Outputs : Type 0 where
@@ -44,14 +44,14 @@ abbrev pub putsTwo : List Row → Outputs → Outputs → Call Outputs
 putsTwo order results outputs = record {
   order = order;
   numbers = [];
-  candidateWith = none;
+  candidateWith = noCandidate;
   before = outputs;
   after = record { one = front (results .one) (outputs .one); two = front (results .two) (outputs .two) };
 }
 
 -- a call that makes a state, or hands back, when refused, the state that no call takes
 abbrev pub makes : {State : Type 0} → List Row → State → State → Call State
-makes order refused made = record { order = order; numbers = []; candidateWith = none; before = refused; after = made }
+makes order refused made = record { order = order; numbers = []; candidateWith = noCandidate; before = refused; after = made }
 
 -- numbers put to 0, but for the first where it is a candidate that is given
 abbrev pub zeros : Bool → List ℕ → List ℕ

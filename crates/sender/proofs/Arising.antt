@@ -20,7 +20,7 @@ use Rattle.link.specs.declared.Link.{Link}
 use Rattle.link.specs.Link.{linkCanArise, linkOrder, linkOf}
 use Rattle.link.proofs.Links.{link-says-not, says-no-link}
 use Rattle.sender.specs.declared.Sender.{Sender}
-use Rattle.sender.specs.Sender.{newSender, afterFrame, openSenderCall, senderCanArise, sealCall, SenderCannotArise, next-past-end, no-service, no-direction, SenderArises, opened, sealed}
+use Rattle.sender.specs.Sender.{senderOf, newSender, afterFrame, openSenderCall, senderCanArise, sealCall, SenderCannotArise, next-past-end, no-service, no-direction, SenderArises, opened, sealed}
 use Rattle.sender.proofs.Sealing.{sender-says, seal-0}
 use Rattle.sender.proofs.Laws.{opened-can-arise, seal-done, sealed-can-arise}
 
@@ -40,13 +40,9 @@ sender-cannot-arise-iff sender = (
     causes (no-service service) = rw (says-no-link (sender .link) (inl service))
     causes (no-direction direction) = rw (says-no-link (sender .link) (inr direction))
 
--- the sender of a link with this next number
-abbrev at : Link → ℕ → Sender
-at link next = record { link = link; next = next }
-
 -- a link of 16 octets that can arise is opened by itself
 module _ (link : Link) (good : linkCanArise link ≡ true) (sixteen : length (link .key) ≡ 16) where
-  first-arises : SenderArises (at link 0)
+  first-arises : SenderArises (senderOf link 0)
   unfolding first linkOrder linkCanArise linkOf newSender
   first-arises =
       let whole : linkOf (link .key) (link .iov) (link .sapi) (link .direction) ≡ link =
@@ -56,16 +52,16 @@ module _ (link : Link) (good : linkCanArise link ≡ true) (sixteen : length (li
       (done (openSenderCall (link .key) (link .iov) (link .sapi) (link .direction)) (simp (whole-is-key (link .key) sixteen, good))))
 
   -- and from there every number up to 2^27 is reached
-  each-arises : (next : ℕ) → next ≤ end → SenderArises (at link next)
+  each-arises : (next : ℕ) → next ≤ end → SenderArises (senderOf link next)
   unfolding senderCanArise afterFrame
   each-arises zero within = first-arises
   each-arises (suc next) within =
-      let before : SenderArises (at link next) = each-arises next (omega arith) in
-      let fit : senderCanArise (at link next) ≡ true = simp (good, le-leb next end (omega arith)) in
-      subst (λ (n : ℕ). SenderArises (at link n)) (add-one next)
+      let before : SenderArises (senderOf link next) = each-arises next (omega arith) in
+      let fit : senderCanArise (senderOf link next) ≡ true = simp (good, le-leb next end (omega arith)) in
+      subst (λ (n : ℕ). SenderArises (senderOf link n)) (add-one next)
       (sealed (0 ∷ []) (replicate 7 0) before
-      (done (sealCall (at link next) (0 ∷ []) (replicate 7 0))
-      (seal-0 (at link next) (0 ∷ []) (replicate 7 0) fit (λ empty. omega arith) (omega arith) (λ last. omega arith) (omega arith))))
+      (done (sealCall (senderOf link next) (0 ∷ []) (replicate 7 0))
+      (seal-0 (senderOf link next) (0 ∷ []) (replicate 7 0) fit (λ empty. omega arith) (omega arith) (λ last. omega arith) (omega arith))))
 
 pub arises-can-arise : {sender : Sender} → SenderArises sender → senderCanArise sender ≡ true
 arises-can-arise (opened key iov sapi direction answered) = opened-can-arise key iov sapi direction answered

@@ -6,19 +6,23 @@ use mathlib.Core.List.{List, [], _∷_}
 use lib.Dec.{eqb, leb, ltb}
 use lib.ListN.{length}
 use Rattle.refusals.specs.Refusal.{Row}
-use Rattle.refusals.specs.Call.{Call, Answered, front, makes, none}
+use Rattle.refusals.specs.Call.{Call, Answered, front, makes, noCandidate}
 use Rattle.numbering.specs.Numbering.{end}
 use Rattle.link.specs.declared.Link.{Link}
 use Rattle.link.specs.Link.{isService, isDirection, linkCanArise, linkOrder, noLink, linkOf, isPayload, frameAt}
 use Rattle.sender.specs.declared.Sender.{Sender}
 
+-- the sender of a link with this next number
+abbrev pub senderOf : Link → ℕ → Sender
+senderOf link next = record { link = link; next = next }
+
 -- a new sender on a link: its next number is 0
 unfoldable pub newSender : Link → Sender
-newSender link = record { link = link; next = 0 }
+newSender link = senderOf link 0
 
 -- the sender after one frame: the next number is one more
 unfoldable pub afterFrame : Sender → Sender
-afterFrame sender = record { link = sender .link; next = sender .next + 1 }
+afterFrame sender = senderOf (sender .link) (sender .next + 1)
 
 -- sender::open_sender
 abbrev pub openSenderCall : List ℕ → ℕ → ℕ → ℕ → Call Sender
@@ -54,7 +58,7 @@ abbrev pub sealCall : Sender → List ℕ → List ℕ → Call Sealing
 sealCall sender payload output = record {
   order = sealOrder sender payload output;
   numbers = sender .next ∷ (length payload + 6) ∷ [];
-  candidateWith = none;
+  candidateWith = noCandidate;
   before = record { sender = sender; output = output };
   after = record { sender = afterFrame sender; output = front (frameAt (sender .link) (sender .next) payload) output };
 }

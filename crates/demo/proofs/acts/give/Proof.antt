@@ -35,7 +35,7 @@ slice-aggregate-frame-at : tie.Need-slice-aggregate-frame-at
 slice-aggregate-frame-at c = sym (places (c .before .before .before .before .before .before .before .before .before .before .before .before .before .before .before))
 
 frame-at-requires : tie.Need-frame-at-requires
-frame-at-requires c κs = (c .before .before .before .before .before .before .before .before .before .before .before .before .before .before .before .pre .0, places (c .before .before .before .before .before .before .before .before .before .before .before .before .before .before .before))
+frame-at-requires c κs = (search needs, places (c .before .before .before .before .before .before .before .before .before .before .before .before .before .before .before))
 
 hand-requires : tie.Need-hand-requires
 hand-requires c κs = search needs
