@@ -21,7 +21,7 @@ end = 2 ^ 27
 
 -- ---- the state
 
--- the marks of a state, as one number of which bit k is the number V - 1 - k
+-- the marks of a state, as one number: mark k, counted from its lowest bit, is of the number V - 1 - k
 unfoldable pub marksOf : Numbering → ℕ
 marksOf state = state .marks
 
@@ -106,9 +106,9 @@ pub data CannotArise (w : ℕ) (state : Numbering) : Type 0 where
   next-past-end : end < state .next → CannotArise w state
   -- V = 0 with a mark
   mark-at-0 : (k : ℕ) → state .next ≡ 0 → mark (marksOf state) k ≡ 1 → CannotArise w state
-  -- V > 0 without the mark of V - 1, which is bit 0
+  -- V > 0 without the mark of V - 1, which is mark 0
   last-unmarked : 0 < state .next → mark (marksOf state) 0 ≡ 0 → CannotArise w state
-  -- a mark below number 0: bit k is the number V - 1 - k
+  -- a mark below number 0: mark k is of the number V - 1 - k
   mark-below-0 : (k : ℕ) → state .next ≤ k → mark (marksOf state) k ≡ 1 → CannotArise w state
   -- a mark outside the window
   mark-outside : (k : ℕ) → w ≤ k → mark (marksOf state) k ≡ 1 → CannotArise w state

@@ -11,7 +11,7 @@ pub const WIDTH: u32 = 32;
 // One more than the last number: 2^27.
 pub const END: u32 = 134_217_728;
 
-// The state: the next number V, and the marks, of which bit k is the number V - 1 - k.
+// The state: the next number V, and the marks: mark k, counted from the lowest bit, is of the number V - 1 - k.
 pub struct Numbering {
     pub next: u32,
     pub marks: u32,
@@ -53,7 +53,7 @@ fn raised(next: u32, sent: u32) -> u32
     low + (sent + (512 - low % 512)) % 512
 }
 
-// The mask of a number below V: a 1 at bit V - 1 - n.
+// The mask of a number below V: mark V - 1 - n alone.
 fn mask(next: u32, number: u32) -> u32
     requires { ⌜ (number < next) × (next ≤ number + width) ⌝ }
     ensures { λ r. ⌜ r ≡ 2 ^ (next - 1 - number) ⌝ }
