@@ -2,8 +2,8 @@
 # Fails when a page names a file or a name that does not exist, or leads to a heading that does not; when docs/USING.md does not show the files of the
 # crate `using` as they are; when docs/CALLS.md or the list that promises 1 and 2 speak of do not have exactly the public calls, or the lines of `call`
 # on docs/CALLS.md are not those of the library's; when the contract of a public call does not cite its entry of that list, or leaves out something that
-# the call gives back; when docs/ARCHITECTURE.md does not say what crates.txt says; when docs/PROMISES.md calls a changed statement a wrong program; or
-# when a public function has a `requires`.
+# the call gives back; when docs/ARCHITECTURE.md does not say what crates.txt says; when docs/FRAME.md does not have exactly the services of the
+# definition; when docs/PROMISES.md calls a changed statement a wrong program; or when a public function has a `requires`.
 # On the pages, `crate/folder/File.ext#name` is a name in a file under crates/, and `a/path.ext` a file.
 set -euo pipefail
 top=$(cd "$(dirname "$0")/.." && pwd -P)
@@ -107,6 +107,10 @@ known=$(awk '/^## By hand: the program call$/ { on = 1; next } on && /^```$/ { f
 uses=$(sed 's/#.*//' crates.txt | sed -nE 's/^([a-z0-9_]+): *(.*)$/\1: \2/p' | sed 's/ *$//' | sort)
 said=$(sed -nE 's/^\| `([a-z0-9_]+)` \| uses ([^|]*) \|.*/\1: \2/p' docs/ARCHITECTURE.md | sed 's/: nothing$/:/; s/`//g; s/,//g' | sort)
 [ "$uses" = "$said" ] || { fault 'docs/ARCHITECTURE.md does not say what crates.txt says:'; diff <(echo "$said") <(echo "$uses") >&2 || true; }
+
+services=$(sed -nE 's/^ *([0-9]+) ∷ +-- ([A-Z0-9]+):.*/\1 \2/p' crates/link/specs/Services.antt)
+named=$(sed -nE 's/^\| ([0-9]+) \| ([A-Z0-9]+) \|.*/\1 \2/p' docs/FRAME.md)
+[ -n "$services" ] && [ "$services" = "$named" ] || { fault 'docs/FRAME.md does not list exactly the services that are assigned:'; diff <(echo "$named") <(echo "$services") >&2 || true; }
 
 for source in crates/*/src/*.rt; do
     awk -v f="$source" '/^ *pub fn/ { name = $0; inside = 1 } /^ *\{$/ { inside = 0 } inside && /^ *requires/ { print f ": " name; bad = 1 } END { exit bad }' "$source" || fault 'a public function has a requires'

@@ -21,7 +21,7 @@ at v = numberingOf v 1
 
 unfoldable pub marked : List Example
 marked =
-    -- P1 to P4: INPUT of IOV, SAPI and n
+    -- P1 to P4: INPUT of IOV, SAPI and n; P2 to P4 are arithmetic of the formula alone, since SAPI 0 and 15 are reserved
     record { given = inputOf 0 3 0; said = 0x98000000 } ∷
     record { given = inputOf 0xFFFFFFFF 0 1; said = 0x80000000 } ∷
     record { given = inputOf 0x7FFFFFFF 0 1; said = 0x00000000 } ∷

@@ -1,3 +1,4 @@
--- The laws of a link: what opening it asks, and the frame of a number.
+-- The laws of a link: what opening it asks, the frame of a number, and the numbers of a list.
 pub mod Frames
 pub mod Links
+pub mod Services

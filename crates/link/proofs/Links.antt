@@ -7,7 +7,7 @@ use mathlib.Core.Logic.{_⊎_, inl, inr}
 use mathlib.Core.Bool.{true, false, and-eq-true-iff, and-false, _||_}
 use mathlib.Core.List.{List}
 use borrow.Author.Tests.{leb-true, not-false, ne-eqb, le-ltb}
-use lib.Dec.{eqb, ltb}
+use lib.Dec.{eqb, leb, ltb, lit≤}
 use lib.ListN.{length}
 use Rattle.refusals.specs.Refusal.{first, rowAt}
 use Rattle.refusals.specs.Call.{Answered, front}
@@ -17,12 +17,14 @@ use Rattle.refusals.proofs.Tests.{by-test}
 use Rattle.keystreams.specs.Key.{isKey, prepared}
 use Rattle.keystreams.proofs.Keys.{length-prepared}
 use Rattle.link.specs.declared.Link.{Link}
+use Rattle.link.specs.Services.{assigned}
 use Rattle.link.specs.Link.{isService, isDirection, linkCanArise, linkOrder, noLink, linkOf, openLinkCall, ciphered, isPayload, cipherOrder, cipherCall}
+use Rattle.link.proofs.Services.{among-passes}
 
 -- a service number and a direction that exist fit the frame's four bits and one
 pub service-most : (sapi : ℕ) → isService sapi ≡ true → sapi ≤ 15
 unfolding isService
-service-most sapi exists = leb-true sapi 15 exists
+service-most sapi exists = lit≤ (among-passes (λ (m : ℕ). leb m 15) sapi 0 assigned tt exists)
 
 pub direction-most : (direction : ℕ) → isDirection direction ≡ true → direction ≤ 1
 unfolding isDirection

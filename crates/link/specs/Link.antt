@@ -12,11 +12,12 @@ use Rattle.keystreams.specs.Gea4.{gea4Output}
 use Rattle.frames.specs.declared.Header.{Header}
 use Rattle.frames.specs.Frame.{frame}
 use Rattle.link.specs.Input.{inputOf}
+use Rattle.link.specs.Services.{assigned, isAmong}
 use Rattle.link.specs.declared.Link.{Link}
 
--- a service number that exists
+-- a service number that exists: one that is assigned
 unfoldable pub isService : ℕ → Bool
-isService sapi = leb sapi 15
+isService sapi = isAmong sapi assigned
 
 -- a direction: 0 phone to cell, 1 cell to phone
 unfoldable pub isDirection : ℕ → Bool

@@ -20,11 +20,18 @@ pub struct OpenedLink {
     pub link: Link,
 }
 
-// A service number that exists.
+// A service number that TS 44.064 assigns.
 fn is_service(sapi: u8) -> bool
     ensures { λ r. ⌜ r ≡ isService sapi ⌝ }
 {
-    sapi <= 15
+    (sapi == 1)
+        | (sapi == 2)
+        | (sapi == 3)
+        | (sapi == 5)
+        | (sapi == 7)
+        | (sapi == 8)
+        | (sapi == 9)
+        | (sapi == 11)
 }
 
 // 0 phone to cell, 1 cell to phone.

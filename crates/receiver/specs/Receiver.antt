@@ -36,7 +36,7 @@ receiverCanArise w receiver = linkCanArise (receiver .link) && canArise w (recei
 
 -- the table's causes of refusal 12 for a receiver, one by one: `receiverCanArise` fails exactly where one of them holds
 pub data ReceiverCannotArise (w : ℕ) (receiver : Receiver) : Type 0 where
-  -- SAPI or direction out of range
+  -- a service number that is not assigned, or a direction out of range
   no-service : isService (receiver .link .sapi) ≡ false → ReceiverCannotArise w receiver
   no-direction : isDirection (receiver .link .direction) ≡ false → ReceiverCannotArise w receiver
   -- next above 2^27, or a mark that cannot be or is missing

@@ -3,7 +3,7 @@
 // The key is not 16 octets.
 pub const KEY: u8 = 1;
 
-// An input is above its range.
+// An input is above its range, or a service number is not assigned.
 pub const RANGE: u8 = 2;
 
 // A size is 0 or above its limit.

@@ -36,7 +36,7 @@ senderCanArise sender = linkCanArise (sender .link) && leb (sender .next) end
 pub data SenderCannotArise (sender : Sender) : Type 0 where
   -- next above 2^27
   next-past-end : end < sender .next → SenderCannotArise sender
-  -- SAPI or direction out of range
+  -- a service number that is not assigned, or a direction out of range
   no-service : isService (sender .link .sapi) ≡ false → SenderCannotArise sender
   no-direction : isDirection (sender .link .direction) ≡ false → SenderCannotArise sender
 

@@ -5,6 +5,7 @@ use super::form::{handed_out, lent, number, octets_field, shown};
 use super::Subject;
 use crate::cases::KEY;
 use crate::link::ends::cipher;
+use crate::link::services::assigned;
 use crate::link::states::open_link;
 use crate::random::Random;
 
@@ -35,18 +36,18 @@ fn answer(fields: &[&[u8]]) -> Option<String> {
     }
 }
 
-/// Every service number and direction near their ends, and keys of wrong lengths.
+/// Every service number with directions near their end, and keys of wrong lengths.
 fn links() -> Vec<String> {
     let mut lines = Vec::new();
-    for sapi in (0..=17).chain([127, 128, 254, 255]) {
-        for direction in [0, 1, 2, 3, 255] {
+    for sapi in 0..=u8::MAX {
+        for direction in [0, 1, 2, 255] {
             lines.push(format!("open_link {KEY} 0x1234567 {sapi} {direction}"));
             lines.push(format!("link_can_arise {KEY} 0x1234567 {sapi} {direction}"));
         }
     }
     for octets in [0, 1, 8, 15, 16, 17, 32] {
         let key = shown(&vec![7; octets]);
-        lines.extend([3, 16].map(|sapi| format!("open_link {key} 0 {sapi} 1")));
+        lines.extend([3, 4].map(|sapi| format!("open_link {key} 0 {sapi} 1")));
     }
     lines
 }
@@ -63,7 +64,7 @@ fn ciphers() -> Vec<String> {
             lines.push(cipher(3, 0, 580, octets, room));
         }
     }
-    for (sapi, direction) in [(0, 0), (15, 1), (16, 0), (3, 2), (255, 255)] {
+    for (sapi, direction) in [(1, 0), (11, 1), (4, 0), (16, 1), (3, 2), (255, 255)] {
         for octets in [0, 4] {
             lines.extend([3, 4].map(|room| cipher(sapi, direction, 1, octets, room)));
         }
@@ -78,7 +79,7 @@ fn random_ciphers() -> Vec<String> {
     let mut lines = Vec::new();
     for _ in 0..60 {
         let (key, octets) = (random.digits(16), 1 + random.below(40));
-        let (sapi, direction) = (random.below(17), random.below(3));
+        let (sapi, direction) = (random.one_of(&assigned()), random.below(3));
         let (iov, n) = (random.number() as u32, random.number() as u32);
         let room = octets + random.below(4) - usize::from(octets > 1 && random.below(5) == 0);
         let payload = random.digits(octets);
@@ -114,7 +115,7 @@ mod tests {
 
     #[test]
     fn a_refused_link_cannot_arise() {
-        let none = answer_to("open_link K 0 16 0");
+        let none = answer_to("open_link K 0 4 0");
         let link = none.strip_prefix("2 ").expect("refused with 2");
         assert_eq!(answer_to(&format!("link_can_arise {link}")), "0");
         assert_eq!(answer_to(&format!("cipher {link} 0 AA 1")), "12 AA");

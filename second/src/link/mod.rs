@@ -4,6 +4,7 @@
 pub mod ends;
 pub mod frame;
 pub mod numbering;
+pub mod services;
 pub mod states;
 
 use crate::bits::{of_number, to_number, xor};
@@ -21,7 +22,7 @@ mod tests {
     use super::*;
 
     #[test]
-    fn p1_to_p4_of_document_01() {
+    fn p1_to_p4_of_document_01_as_arithmetic() {
         assert_eq!(input(0, 3, 0), 0x9800_0000);
         assert_eq!(input(0xFFFF_FFFF, 0, 1), 0x8000_0000);
         assert_eq!(input(0x7FFF_FFFF, 0, 1), 0x0000_0000);

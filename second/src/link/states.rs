@@ -1,9 +1,10 @@
 //! The states of a sender and of a receiver, and how an end is opened.
-//! Follows document 01, "The link" and "Refusal numbers".
+//! Follows document 01, "The link" and "Refusal numbers", and document 02, item 5.
 
 use crate::lines::hex;
-use crate::link::frame::{LAST_DIRECTION, LAST_SAPI};
+use crate::link::frame::LAST_DIRECTION;
 use crate::link::numbering::{History, LAST_NUMBER};
+use crate::link::services::is_assigned;
 use crate::refusals::{bad_key, first, KEY, NONE, RANGE};
 use std::fmt::{Display, Formatter, Result};
 
@@ -43,8 +44,8 @@ pub fn open_receiver(key: &[u8], iov: u32, sapi: u8, direction: u8) -> (u8, Rece
 }
 
 pub fn open_link(key: &[u8], iov: u32, sapi: u8, direction: u8) -> (u8, Link) {
-    let refusal =
-        first(&[(KEY, bad_key(key)), (RANGE, sapi > LAST_SAPI || direction > LAST_DIRECTION)]);
+    let out_of_range = !is_assigned(sapi) || direction > LAST_DIRECTION;
+    let refusal = first(&[(KEY, bad_key(key)), (RANGE, out_of_range)]);
     let link = match <[u8; 16]>::try_from(key) {
         Ok(key) if refusal == NONE => Link { key, iov, sapi, direction },
         _ => NO_LINK,
@@ -53,9 +54,9 @@ pub fn open_link(key: &[u8], iov: u32, sapi: u8, direction: u8) -> (u8, Link) {
 }
 
 impl Link {
-    /// 12: SAPI or direction out of range.
+    /// 12: a service number that is not assigned, or a direction out of range.
     pub fn cannot_arise(&self) -> bool {
-        self.sapi > LAST_SAPI || self.direction > LAST_DIRECTION
+        !is_assigned(self.sapi) || self.direction > LAST_DIRECTION
     }
 }
 
@@ -102,16 +103,27 @@ mod tests {
         let (refusal, sender) = open_sender(&[7; 15], 5, 16, 2);
         assert_eq!((refusal, sender), (KEY, Sender { link: NO_LINK, next: 0 }));
         assert!(sender.cannot_arise());
-        let (refusal, receiver) = open_receiver(&[7; 16], 5, 15, 2);
+        let (refusal, receiver) = open_receiver(&[7; 16], 5, 11, 2);
         assert_eq!(refusal, RANGE);
         assert_eq!(receiver.to_string(), format!("{} 0 0 2 0 0", "00".repeat(16)));
         assert!(receiver.history().is_none());
     }
 
     #[test]
+    fn a_reserved_service_opens_nothing_and_arises_nowhere() {
+        for sapi in [0, 4, 6, 10, 12, 15, 16, 255] {
+            let (refusal, sender) = open_sender(&[7; 16], 5, sapi, 0);
+            assert_eq!((refusal, sender), (RANGE, Sender { link: NO_LINK, next: 0 }));
+            let link = Link { key: [7; 16], iov: 5, sapi, direction: 0 };
+            assert!(Sender { link, next: 0 }.cannot_arise());
+            assert!(Receiver { link, next: 0, marks: 0 }.history().is_none());
+        }
+    }
+
+    #[test]
     fn an_opened_end_holds_what_it_was_given() {
-        let (refusal, receiver) = open_receiver(&[7; 16], 5, 15, 1);
+        let (refusal, receiver) = open_receiver(&[7; 16], 5, 11, 1);
         assert_eq!(refusal, NONE);
-        assert_eq!(receiver.to_string(), format!("{} 5 15 1 0 0", "07".repeat(16)));
+        assert_eq!(receiver.to_string(), format!("{} 5 11 1 0 0", "07".repeat(16)));
     }
 }

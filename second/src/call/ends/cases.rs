@@ -5,6 +5,7 @@ use crate::call::headers::payload;
 use crate::call::numbers::{arising, n_of, FULL};
 use crate::cases::{KEY, SIZES};
 use crate::link::frame::framed;
+use crate::link::services::assigned;
 use crate::link::states::{Link, Receiver, Sender};
 
 pub fn lines() -> Vec<String> {
@@ -26,16 +27,13 @@ fn openings() -> Vec<String> {
     let mut fields = Vec::new();
     for octets in [0, 1, 8, 15, 16, 17, 32] {
         let key = if octets == 0 { "-".to_string() } else { "5a".repeat(octets) };
-        for (sapi, direction) in [(15, 1), (16, 1), (15, 2), (16, 2)] {
+        for (sapi, direction) in [(11, 1), (4, 1), (11, 2), (16, 2)] {
             fields.push(format!("{key} 0xDEADBEEF {sapi} {direction}"));
         }
     }
     fields.push(format!("{} 1 2 0", "5A".repeat(2_048)));
-    for sapi in (0..=17).chain([31, 32, 128, 255]) {
-        fields.extend([0, 1].map(|direction| format!("{KEY} 7 {sapi} {direction}")));
-    }
-    fields.extend([2, 3, 128, 255].map(|direction| format!("{KEY} 7 15 {direction}")));
-    fields.extend([0, 1, u32::MAX].map(|iov| format!("{KEY} {iov} 0 0")));
+    fields.extend([3, 128, 255].map(|direction| format!("{KEY} 7 11 {direction}")));
+    fields.extend([0, 1, u32::MAX].map(|iov| format!("{KEY} {iov} 1 0")));
     fields
         .iter()
         .flat_map(|fields| ["open_sender", "open_receiver"].map(|name| format!("{name} {fields}")))
@@ -68,7 +66,7 @@ fn sealed_inputs() -> Vec<String> {
             lines.push(line(Link { iov, ..LINK }, next));
         }
     }
-    for sapi in 0..16 {
+    for sapi in assigned() {
         for direction in [0, 1] {
             let link = Link { sapi, direction, ..LINK };
             lines.extend([0, FULL - 1].map(|next| line(link, next)));
@@ -127,14 +125,14 @@ fn late() -> Vec<String> {
     lines
 }
 
-/// A frame of every service and direction, for two links.
+/// A frame with every SAPI that its four bits can tell and either direction, for two links: a
+/// reserved one is of no link.
 fn others() -> Vec<String> {
     let mut lines = Vec::new();
-    for link in [LINK, Link { sapi: 0, direction: 0, ..LINK }] {
+    for link in [LINK, Link { sapi: 11, direction: 0, ..LINK }] {
         for sapi in 0..16 {
             for direction in [0, 1] {
-                let frame =
-                    sealed(Sender { link: Link { sapi, direction, ..LINK }, next: 7 }, &[9]);
+                let frame = framed(sapi, direction, 7, &[9]);
                 lines.push(open_line(Receiver { link, next: 7, marks: 0x41 }, &frame, 1));
             }
         }

@@ -15,7 +15,7 @@ pub fn lines() -> Vec<String> {
 fn refused_seals() -> Vec<String> {
     let mut lines = Vec::new();
     for next in [5, FULL, FULL + 1] {
-        for sapi in [3, 16] {
+        for sapi in [3, 4] {
             let sender = Sender { link: Link { sapi, ..LINK }, next };
             for size in [4, 0, 1_521] {
                 let payload = payload(size);
@@ -79,10 +79,10 @@ fn refused_open(mut receiver: Receiver, n: u32, causes: &Causes) -> String {
     open_line(receiver, &frame, if causes.room { 2 } else { 3 })
 }
 
-/// Services and directions within their range and out of it; the last is what a refused
-/// opening hands back.
+/// Services and directions that exist and that do not; the last is what a refused opening hands
+/// back.
 fn links() -> Vec<Link> {
-    let mut links: Vec<Link> = [(0, 0), (15, 1), (16, 1), (255, 0), (15, 2), (0, 255), (16, 2)]
+    let mut links: Vec<Link> = [(1, 0), (11, 1), (4, 1), (16, 0), (11, 2), (1, 255), (6, 2)]
         .map(|(sapi, direction)| Link { sapi, direction, ..LINK })
         .to_vec();
     links.push(Link { key: [0; 16], iov: 0, sapi: 0, direction: 2 });

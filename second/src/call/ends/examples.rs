@@ -18,13 +18,14 @@ pub fn lines() -> Vec<String> {
     lines
 }
 
-/// P1 to P4: zero octets are sealed into the keystream that GEA4 gives for the INPUT.
+/// P1, and after it what P2 to P4 show, a carry, the wrap and the highest service, with services
+/// that are assigned: zero octets are sealed into the keystream that GEA4 gives for the INPUT.
 fn inputs() -> Vec<String> {
     let examples: [(u32, u8, u32, u32); 4] = [
         (0, 3, 0, 0x9800_0000),
-        (0xFFFF_FFFF, 0, 1, 0x8000_0000),
-        (0x7FFF_FFFF, 0, 1, 0x0000_0000),
-        (0, 15, 512, 0xF800_0200),
+        (0xFFFF_FFFF, 1, 1, 0x7800_0000),
+        (0x77FF_FFFF, 1, 1, 0x0000_0000),
+        (0, 11, 512, 0xD800_0200),
     ];
     let mut lines = Vec::new();
     for (iov, sapi, next, input) in examples {

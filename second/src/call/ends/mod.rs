@@ -5,6 +5,7 @@ mod cases;
 mod causes;
 mod examples;
 mod runs;
+mod services;
 
 use super::form::{lent, number, octets_field, shown};
 use super::Subject;
@@ -21,7 +22,11 @@ pub const SUBJECT: Subject = Subject {
         "open RECEIVER FRAME ROOM:size -> 0 4 5 6 7 8 9 10 11 12",
     ],
     answer,
-    cases: || [examples::lines(), cases::lines(), causes::lines(), runs::lines()].concat(),
+    cases: || {
+        let parts =
+            [examples::lines(), services::lines(), cases::lines(), causes::lines(), runs::lines()];
+        parts.concat()
+    },
 };
 
 /// The fields of the states in a form.

@@ -4,6 +4,7 @@
 use super::{open_line, seal_line};
 use crate::call::numbers::{arising, FULL};
 use crate::link::ends::{open, seal, Answer};
+use crate::link::services::assigned;
 use crate::link::states::{Link, Receiver, Sender};
 use crate::random::Random;
 
@@ -52,7 +53,7 @@ impl Run {
     /// Ends newly opened, or well on their way.
     fn begun(random: &mut Random) -> Run {
         let key = std::array::from_fn(|_| random.octet());
-        let (sapi, direction) = (random.below(16) as u8, random.below(2) as u8);
+        let (sapi, direction) = (random.one_of(&assigned()), random.below(2) as u8);
         let link = Link { key, iov: random.number() as u32, sapi, direction };
         let next = random.one_of(&[0, 0, 0, 0, 20, 500, 77_777, FULL - 300, FULL - 5]);
         let marks = arising(next, random.number() as u32);
