@@ -108,7 +108,8 @@ uses=$(sed 's/#.*//' crates.txt | sed -nE 's/^([a-z0-9_]+): *(.*)$/\1: \2/p' | s
 said=$(sed -nE 's/^\| `([a-z0-9_]+)` \| uses ([^|]*) \|.*/\1: \2/p' docs/ARCHITECTURE.md | sed 's/: nothing$/:/; s/`//g; s/,//g' | sort)
 [ "$uses" = "$said" ] || { fault 'docs/ARCHITECTURE.md does not say what crates.txt says:'; diff <(echo "$said") <(echo "$uses") >&2 || true; }
 
-services=$(sed -nE 's/^ *([0-9]+) ∷ +-- ([A-Z0-9]+):.*/\1 \2/p' crates/link/specs/Services.antt)
+# Of the list every line counts, so that one of another form is a difference.
+services=$(sed -n '/^assigned =$/,/^ *\[\]$/p' crates/link/specs/Services.antt | sed -E '1d; $d; s/^ *([0-9]+) ∷ +-- ([A-Z0-9]+):.*/\1 \2/')
 named=$(sed -nE 's/^\| ([0-9]+) \| ([A-Z0-9]+) \|.*/\1 \2/p' docs/FRAME.md)
 [ -n "$services" ] && [ "$services" = "$named" ] || { fault 'docs/FRAME.md does not list exactly the services that are assigned:'; diff <(echo "$named") <(echo "$services") >&2 || true; }
 

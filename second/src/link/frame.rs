@@ -8,8 +8,9 @@ use crate::refusals::{first, LENGTH, NONE, RANGE, ROOM, SIZE, SPARE, VERSION};
 
 pub const HEADER_OCTETS: usize = 6;
 pub const LARGEST_PAYLOAD: usize = 1_520;
-pub const LAST_SAPI: u8 = 15;
 pub const LAST_DIRECTION: u8 = 1;
+/// What four bits can tell; which of these numbers exist is not the frame's question.
+const LARGEST_SAPI: u8 = 15;
 
 /// The fields of the first six octets in their order.
 struct Fields {
@@ -78,7 +79,7 @@ pub fn look_refusal(frame: &[u8]) -> u8 {
 /// Writes the six octets before a payload of `size` octets.
 pub fn put_header(sapi: u8, direction: u8, n: u32, size: usize, output: &mut [u8]) -> u8 {
     let refusal = first(&[
-        (RANGE, sapi > LAST_SAPI || direction > LAST_DIRECTION || n > LAST_N),
+        (RANGE, sapi > LARGEST_SAPI || direction > LAST_DIRECTION || n > LAST_N),
         (SIZE, bad_size(size)),
         (ROOM, short(output, 8 * HEADER_OCTETS as u64)),
     ]);

@@ -35,7 +35,7 @@ mod tests {
     use super::*;
 
     #[test]
-    fn the_eight_numbers_of_the_request() {
+    fn the_eight_numbers_of_item_5() {
         assert_eq!(assigned(), [1, 2, 3, 5, 7, 8, 9, 11]);
         let users = |owner: &&Option<&str>| **owner == Some("user data");
         assert_eq!(OWNERS.iter().filter(users).count(), 4);

@@ -16,8 +16,8 @@ pub fn lines() -> Vec<String> {
         .collect()
 }
 
-/// The frame is one of the state's own link, or where that cannot arise, one that says the bits
-/// that a header would have.
+/// The frame is what a sender in this state seals; where the state cannot arise, one whose header
+/// has the low four bits of the SAPI and the low bit of the direction.
 fn through(link: Link) -> [String; 4] {
     let Link { key, iov, sapi, direction } = link;
     let ends = ["sender", "receiver"]
