@@ -1,4 +1,3 @@
--- The laws of a link: what opening it asks, the frame of a number, and the numbers of a list.
+-- The laws of a link: what opening it asks, and the frame of a number.
 pub mod Frames
 pub mod Links
-pub mod Services

@@ -11,6 +11,7 @@ use lib.Dec.{eqb, leb, ltb, lit≤}
 use lib.ListN.{length}
 use Rattle.refusals.specs.Refusal.{first, rowAt}
 use Rattle.refusals.specs.Call.{Answered, front}
+use Rattle.refusals.proofs.Among.{among-passes}
 use Rattle.refusals.proofs.Calls.{answered-done}
 use Rattle.refusals.proofs.Laws.{then-and-only-then}
 use Rattle.refusals.proofs.Tests.{by-test}
@@ -19,7 +20,6 @@ use Rattle.keystreams.proofs.Keys.{length-prepared}
 use Rattle.link.specs.declared.Link.{Link}
 use Rattle.link.specs.Services.{assigned}
 use Rattle.link.specs.Link.{isService, isDirection, linkCanArise, linkOrder, noLink, linkOf, openLinkCall, ciphered, isPayload, cipherOrder, cipherCall}
-use Rattle.link.proofs.Services.{among-passes}
 
 -- a service number and a direction that exist fit the frame's four bits and one
 pub service-most : (sapi : ℕ) → isService sapi ≡ true → sapi ≤ 15

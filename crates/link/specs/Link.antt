@@ -4,6 +4,7 @@ use mathlib.Core.Bool.{Bool, not, _&&_, _||_}
 use mathlib.Core.List.{List, [], _∷_}
 use lib.Dec.{eqb, leb, ltb}
 use lib.ListN.{length, replicate}
+use Rattle.refusals.specs.Among.{isAmong}
 use Rattle.refusals.specs.Refusal.{Row}
 use Rattle.refusals.specs.Call.{Call, puts, makes}
 use Rattle.octets.specs.Xor.{xored}
@@ -12,11 +13,12 @@ use Rattle.keystreams.specs.Gea4.{gea4Output}
 use Rattle.frames.specs.declared.Header.{Header}
 use Rattle.frames.specs.Frame.{frame}
 use Rattle.link.specs.Input.{inputOf}
-use Rattle.link.specs.Services.{assigned, isAmong}
+use Rattle.link.specs.Services.{assigned}
 use Rattle.link.specs.declared.Link.{Link}
 
 -- a service number that exists: one that is assigned
 unfoldable pub isService : ℕ → Bool
+unfolding isAmong
 isService sapi = isAmong sapi assigned
 
 -- a direction: 0 phone to cell, 1 cell to phone

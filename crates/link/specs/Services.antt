@@ -1,8 +1,6 @@
 -- The service numbers that exist: SAPI of TS 44.064 (document 02, item 5). Assumes nothing.
 use Prim.Native.Nat.{ℕ}
-use mathlib.Core.Bool.{Bool, false, _||_}
 use mathlib.Core.List.{List, [], _∷_}
-use lib.Dec.{eqb}
 
 -- the numbers that the standard assigns, with its names and what they are for; it reserves all others
 abbrev pub assigned : List ℕ
@@ -16,8 +14,3 @@ assigned =
     9 ∷  -- LL9: user data
     11 ∷  -- LL11: user data
     []
-
--- a number that is one of a list
-abbrev pub isAmong : ℕ → List ℕ → Bool
-isAmong n [] = false
-isAmong n (m ∷ others) = eqb n m || isAmong n others

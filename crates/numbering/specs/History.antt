@@ -1,14 +1,9 @@
 -- The numbers that arrived so far, the last one first.
 -- Assumes nothing.
 use Prim.Native.Nat.{ℕ, _+_, max}
-use mathlib.Core.Bool.{Bool, false, _||_}
 use mathlib.Core.List.{List, [], _∷_}
-use lib.Dec.{eqb}
-
 -- n is among the numbers
-unfoldable pub isAmong : ℕ → List ℕ → Bool
-isAmong n [] = false
-isAmong n (m ∷ rest) = eqb n m || isAmong n rest
+unfoldable pub use Rattle.refusals.specs.Among.{isAmong}
 
 -- one above the highest of the numbers, or 0 where there is none
 unfoldable pub aboveAll : List ℕ → ℕ

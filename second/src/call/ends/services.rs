@@ -7,11 +7,9 @@ use crate::lines::hex;
 use crate::link::frame::framed;
 use crate::link::states::{Link, Receiver, Sender};
 
-const DIRECTIONS: [u8; 3] = [0, 1, 2];
-
 pub fn lines() -> Vec<String> {
     (0..=u8::MAX)
-        .flat_map(|sapi| DIRECTIONS.map(|direction| Link { sapi, direction, ..LINK }))
+        .flat_map(|sapi| [0, 1, 2].map(|direction| Link { sapi, direction, ..LINK }))
         .flat_map(through)
         .collect()
 }
@@ -20,17 +18,19 @@ pub fn lines() -> Vec<String> {
 /// has the low four bits of the SAPI and the low bit of the direction.
 fn through(link: Link) -> [String; 4] {
     let Link { key, iov, sapi, direction } = link;
-    let ends = ["sender", "receiver"]
-        .map(|end| format!("open_{end} {} {iov} {sapi} {direction}", hex(&key)));
-    let [open_sender, open_receiver] = ends;
+    let open_end = |end: &str| format!("open_{end} {} {iov} {sapi} {direction}", hex(&key));
     let (sender, receiver) = (Sender { link, next: 540 }, Receiver { link, next: 540, marks: 1 });
     let frame = if link.cannot_arise() {
         framed(sapi % 16, direction % 2, 540 % 512, &payload(4))
     } else {
         sealed(sender, &payload(4))
     };
-    let (seal, open) = (seal_line(sender, &payload(4), 11), open_line(receiver, &frame, 5));
-    [open_sender, open_receiver, seal, open]
+    [
+        open_end("sender"),
+        open_end("receiver"),
+        seal_line(sender, &payload(4), 11),
+        open_line(receiver, &frame, 5),
+    ]
 }
 
 #[cfg(test)]

@@ -5,11 +5,12 @@ use mathlib.Core.Bool.{Bool, true, false≢true}
 use mathlib.Core.List.{List, [], _∷_}
 use borrow.Author.Tests.{eqb-true}
 use lib.Dec.{T, eqb}
+use Rattle.refusals.specs.Among.{isAmong}
 use Rattle.refusals.proofs.Tests.{and-left, and-right, by-test, all}
-use Rattle.link.specs.Services.{isAmong}
 
 -- a test that all numbers of a list pass is passed by a number that is among them
 pub among-passes : (test : ℕ → Bool) (n i : ℕ) (numbers : List ℕ) → T (all (λ (j : ℕ) (m : ℕ). test m) i numbers) → isAmong n numbers ≡ true → T (test n)
+unfolding isAmong
 among-passes test n i [] passed among = absurd (false≢true among)
 among-passes test n i (m ∷ others) passed among =
     by-test (eqb n m) (T (test n))
