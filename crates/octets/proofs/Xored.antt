@@ -1,14 +1,13 @@
--- The xor of octets with a stream, place by place: twice with the same stream gives the octets back. And the law of the call for its callers.
+-- The xor of octets with a stream, place by place: twice with the same stream gives the octets back, and two lists with the same stream the xor of the
+-- lists. And the law of the call for its callers.
 -- Assumes nothing.
-use Prim.Native.Nat.{ℕ, zero, suc, _+_, _*_, _/_, _%_, _≤_, _<_}
+use Prim.Native.Nat.{ℕ, _/_, _≤_, _<_}
 use native.Mathlib.Omega.{arith}
-use native.Mathlib.Nat.{div-add-mod', mod-lt}
 use mathlib.Core.Path.{_≡_, refl, sym, ap, ap₂, _∙_}
 use mathlib.Core.List.{List, _++_}
 use borrow.Author.Tests.{le-ltb}
-use lib.Arith.{bin-ind, digits-div, digits-mod}
-use lib.Bits.{differ, bitXor, xor-step, xor-self}
-use lib.Dec.{lit<}
+use lib.Arith.{bin-ind}
+use lib.Bits.{bitXor, xor-zero-r, xor-comm, xor-add-and, xor-self, xor-shr}
 use lib.ListN.{length, getD, List·getD-append}
 use lib.Seq.{ext-getD}
 use Rattle.refusals.specs.Refusal.{first}
@@ -17,34 +16,26 @@ use Rattle.refusals.proofs.Calls.{answered-done}
 use Rattle.octets.specs.Xor.{xored, xorOrder, xorCall}
 use Rattle.octets.proofs.Listed.{length-listed, getD-listed, listed-ext}
 
--- two digits differ by a digit, and twice by none
-differ-lt : (x y : ℕ) → x < 2 → y < 2 → differ x y < 2
-differ-lt zero y hx hy = hy
-differ-lt (suc x) zero hx hy = hx
-differ-lt (suc x) (suc y) hx hy = differ-lt x y (omega arith) (omega arith)
-
-differ-twice : (x y : ℕ) → x < 2 → y < 2 → differ (differ x y) y ≡ x
-differ-twice zero zero hx hy = refl
-differ-twice zero (suc zero) hx hy = refl
-differ-twice zero (suc (suc y)) hx hy = absurd (omega arith)
-differ-twice (suc zero) zero hx hy = refl
-differ-twice (suc zero) (suc zero) hx hy = refl
-differ-twice (suc zero) (suc (suc y)) hx hy = absurd (omega arith)
-differ-twice (suc (suc x)) y hx hy = absurd (omega arith)
-
--- what is xored twice is back, digit by digit
-pub xor-twice : (a b : ℕ) → bitXor (bitXor a b) b ≡ a
-xor-twice = bin-ind (λ (a : ℕ). (b : ℕ) → bitXor (bitXor a b) b ≡ a) xor-self step
+-- the xor of three numbers does not depend on which two are taken first: digit by digit, since the lowest digit of an xor is that of the sum
+pub xor-assoc : (a b c : ℕ) → bitXor (bitXor a b) c ≡ bitXor a (bitXor b c)
+xor-assoc = bin-ind (λ (a : ℕ). (b c : ℕ) → bitXor (bitXor a b) c ≡ bitXor a (bitXor b c)) (λ b c. refl) step
   where
-    step : (a : ℕ) → ((b : ℕ) → bitXor (bitXor (a / 2) b) b ≡ a / 2) → (b : ℕ) → bitXor (bitXor a b) b ≡ a
-    step a back b =
-        let below : differ (a % 2) (b % 2) < 2 = differ-lt (a % 2) (b % 2) (mod-lt a (lit< tt)) (mod-lt b (lit< tt)) in
-        let half : bitXor a b / 2 ≡ bitXor (a / 2) (b / 2) = ap (λ (x : ℕ). x / 2) (xor-step a b) ∙ digits-div (bitXor (a / 2) (b / 2)) below in
-        let digit : bitXor a b % 2 ≡ differ (a % 2) (b % 2) = ap (λ (x : ℕ). x % 2) (xor-step a b) ∙ digits-mod (bitXor (a / 2) (b / 2)) below in
-        xor-step (bitXor a b) b
-        ∙ ap₂ (λ (x y : ℕ). bitXor x (b / 2) * 2 + differ y (b % 2)) half digit
-        ∙ ap₂ (λ (x y : ℕ). x * 2 + y) (back (b / 2)) (differ-twice (a % 2) (b % 2) (mod-lt a (lit< tt)) (mod-lt b (lit< tt)))
-        ∙ div-add-mod' a 2
+    step : (a : ℕ) → ((b c : ℕ) → bitXor (bitXor (a / 2) b) c ≡ bitXor (a / 2) (bitXor b c)) → (b c : ℕ) → bitXor (bitXor a b) c ≡ bitXor a (bitXor b c)
+    step a above b c =
+        let halves : bitXor (bitXor a b) c / 2 ≡ bitXor a (bitXor b c) / 2 =
+        xor-shr (bitXor a b) c 1
+        ∙ ap (λ (x : ℕ). bitXor x (c / 2)) (xor-shr a b 1)
+        ∙ above (b / 2) (c / 2)
+        ∙ sym (xor-shr a (bitXor b c) 1 ∙ ap (bitXor (a / 2)) (xor-shr b c 1)) in
+        omega (arith, halves, xor-add-and a b, xor-add-and b c, xor-add-and (bitXor a b) c, xor-add-and a (bitXor b c))
+
+-- what is xored twice is back
+pub xor-twice : (a b : ℕ) → bitXor (bitXor a b) b ≡ a
+xor-twice a b = xor-assoc a b b ∙ ap (bitXor a) (xor-self b) ∙ xor-zero-r a
+
+-- and two numbers that were xored with a third have the xor that they had
+pub xor-shared : (a b c : ℕ) → bitXor (bitXor a c) (bitXor b c) ≡ bitXor a b
+xor-shared a b c = xor-assoc a c (bitXor b c) ∙ ap (bitXor a) (xor-comm c (bitXor b c) ∙ xor-twice b c)
 
 -- ---- a list xor a stream
 
@@ -62,6 +53,17 @@ xored-twice a b =
     (λ i below.
     let inside : i < length a = rw (length-xored (xored a b) b, length-xored a b) at below in
     getD-xored (xored a b) b i (rw length-xored inside) ∙ ap (λ (x : ℕ). bitXor x (getD b i 0)) (getD-xored a b i inside) ∙ xor-twice (getD a i 0) (getD b i 0))
+
+-- two lists, the second no shorter, that were xored with one stream have the xor that they had
+pub xored-shared : (a b c : List ℕ) → length a ≤ length b → xored (xored a c) (xored b c) ≡ xored a b
+xored-shared a b c long =
+    ext-getD 0 _ _ (length-xored (xored a c) (xored b c) ∙ length-xored a c ∙ sym (length-xored a b))
+    (λ i below.
+    let inside : i < length a = rw (length-xored (xored a c) (xored b c), length-xored a c) at below in
+    getD-xored (xored a c) (xored b c) i (rw length-xored inside)
+    ∙ ap₂ bitXor (getD-xored a c i inside) (getD-xored b c i (omega arith))
+    ∙ xor-shared (getD a i 0) (getD b i 0) (getD c i 0)
+    ∙ sym (getD-xored a b i inside))
 
 -- what the stream has past the list plays no part
 pub xored-front : (a b rest : List ℕ) → length a ≤ length b → xored a (b ++ rest) ≡ xored a b

@@ -61,7 +61,7 @@ module _ (key : List ℕ) (iov sapi direction : ℕ) (valid : isKey key ≡ true
   link-good : linkCanArise link ≡ true
   link-good = opened-link key iov sapi direction nothing-refused
 
-  sender-opens : Answered (openSenderCall key iov sapi direction) 0 [] (sender-at 0)
+  pub sender-opens : Answered (openSenderCall key iov sapi direction) 0 [] (sender-at 0)
   unfolding newSender
   sender-opens = done (openSenderCall key iov sapi direction) nothing-refused
 
@@ -80,9 +80,13 @@ module _ (key : List ℕ) (iov sapi direction : ℕ) (valid : isKey key ≡ true
   abbrev sent-at : ℕ → SentFrame
   sent-at n = record { number = n; payload = payload; octets = take (length payload + 6) (front (frameAt link n payload) room-for) }
 
-  abbrev sent-from : ℕ → ℕ → List SentFrame
+  abbrev pub sent-from : ℕ → ℕ → List SentFrame
   sent-from n zero = []
   sent-from n (suc k) = sent-at n ∷ sent-from (suc n) k
+
+  pub length-sent : (n k : ℕ) → length (sent-from n k) ≡ k
+  length-sent n zero = refl
+  length-sent n (suc k) = ap suc (length-sent (suc n) k)
 
   good-sender : (n : ℕ) → n ≤ end → senderCanArise (sender-at n) ≡ true
   unfolding senderCanArise
@@ -95,7 +99,7 @@ module _ (key : List ℕ) (iov sapi direction : ℕ) (valid : isKey key ≡ true
       (done (sealCall (sender-at n) payload room-for)
       (seal-0 (sender-at n) payload room-for (good-sender n (omega arith)) (omega (arith, some)) most (omega (arith, below)) (omega (arith, length-replicate {A = ℕ} (length payload + 6) 0))))
 
-  sends-from : (n k : ℕ) → n + k ≤ end → Sends benchSending (sender-at n) (sent-from n k) (sender-at (n + k))
+  pub sends-from : (n k : ℕ) → n + k ≤ end → Sends benchSending (sender-at n) (sent-from n k) (sender-at (n + k))
   unfolding withSealed frameSealed
   sends-from n zero below = subst (λ (last : ℕ). Sends benchSending (sender-at n) [] (sender-at last)) (sym (add-zero n)) no-more
   sends-from n (suc k) below =

@@ -20,7 +20,7 @@ pub all-above : {P : SentFrame → Type 0} (n : ℕ) (frames : List SentFrame) �
 all-above n [] says each = tt
 all-above n (frame ∷ rest) says each = (says frame (each .0), all-above n rest says (each .1))
 
-above-one : {n : ℕ} {frame : SentFrame} {frames : List SentFrame} → AllAbove n frames → IsOneOf frame frames → n < frame .number
+pub above-one : {n : ℕ} {frame : SentFrame} {frames : List SentFrame} → AllAbove n frames → IsOneOf frame frames → n < frame .number
 above-one above here = above .0
 above-one above (there later) = above-one (above .1) later
 

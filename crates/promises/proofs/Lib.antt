@@ -5,6 +5,7 @@ pub mod ByTheRule
 pub mod Calls
 pub mod Examples
 pub mod Frames
+pub mod NoInputTwice
 pub mod Promise1
 pub mod Promise2
 pub mod Promise3

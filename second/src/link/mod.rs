@@ -28,4 +28,22 @@ mod tests {
         assert_eq!(input(0x7FFF_FFFF, 0, 1), 0x0000_0000);
         assert_eq!(input(0, 15, 512), 0xF800_0200);
     }
+
+    /// Document 02, item 11. Under every offset the first INPUT values of two services are at least
+    /// 2^27 apart on the circle of 2^32, and those of some two exactly that. Tried for each choice
+    /// of the five bits that SX turns over, with the bits below all 0, all 1 and mixed.
+    #[test]
+    fn the_services_begin_2_27_apart_and_two_of_them_no_more() {
+        let services = services::assigned();
+        for offset in
+            (0..32).flat_map(|high| [0, 0x0123_4567, 0x07FF_FFFF].map(|low| high << 27 | low))
+        {
+            let begin = |&sapi: &u8| input(offset, sapi, 0);
+            let nearest = services.iter().flat_map(|one| {
+                let others = services.iter().filter(move |&other| other != one);
+                others.map(move |other| begin(other).wrapping_sub(begin(one)))
+            });
+            assert_eq!(nearest.min(), Some(1 << 27), "{offset:08X}");
+        }
+    }
 }

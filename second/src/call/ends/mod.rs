@@ -4,6 +4,7 @@
 mod cases;
 mod causes;
 mod examples;
+mod inputs;
 mod runs;
 mod services;
 
@@ -23,8 +24,14 @@ pub const SUBJECT: Subject = Subject {
     ],
     answer,
     cases: || {
-        let parts =
-            [examples::lines(), services::lines(), cases::lines(), causes::lines(), runs::lines()];
+        let parts = [
+            examples::lines(),
+            services::lines(),
+            inputs::lines(),
+            cases::lines(),
+            causes::lines(),
+            runs::lines(),
+        ];
         parts.concat()
     },
 };

@@ -1,0 +1,166 @@
+-- No INPUT used twice: the law of the formula, and the sender's half of promise 3, by which the numbers of a sender only rise and stay below 2^27.
+-- Assumes nothing.
+use Prim.Native.Nat.{ℕ, suc, _^_, _≤_, _<_}
+use native.Mathlib.Omega.{arith}
+use mathlib.Core.Path.{_≡_, refl, sym, ap, ap₂, subst, _∙_}
+use mathlib.Core.Logic.{inl, inr, ⊎-elim}
+use mathlib.Core.Bool.{true, true≢false}
+use mathlib.Core.List.{List, [], _∷_}
+use lib.Dec.{lit≤}
+use lib.ListN.{length}
+use Rattle.refusals.specs.Call.{Answered}
+use Rattle.refusals.proofs.Tests.{by-test}
+use Rattle.octets.specs.Xor.{xored}
+use Rattle.octets.proofs.Xored.{xored-shared}
+use Rattle.keystreams.specs.Key.{isKey}
+use Rattle.keystreams.specs.Gea4.{gea4Output}
+use Rattle.keystreams.proofs.Laws.{gea4-prepared}
+use Rattle.numbering.specs.Numbering.{end}
+use Rattle.frames.specs.Frame.{payloadOf}
+use Rattle.link.specs.declared.Link.{Link}
+use Rattle.link.specs.Input.{sx, inputOf}
+use Rattle.link.specs.Link.{isService, isDirection, linkCanArise, linkOf, ciphered, frameAt}
+use Rattle.link.proofs.Links.{service-most, link-says, opened-key, opened-link}
+use Rattle.link.proofs.Inputs.{input-tells, two-meets-three}
+use Rattle.link.proofs.Frames.{payload-of-frame-at}
+use Rattle.sender.specs.declared.Sender.{Sender}
+use Rattle.sender.specs.Sender.{newSender, openSenderCall}
+use Rattle.sender.proofs.Laws.{opened-sender, seal-done}
+use Rattle.promises.specs.Ends.{SentFrame, IsOneOf, here, there, benchSending}
+use Rattle.promises.specs.Promise3.{Rising, SendersHalf}
+use Rattle.promises.specs.NoInputTwice.{DifferentInputs, SealedSince, not-opened, opened, BenchSenders, SealedFrame, place, SameCall, inputUsed, AllHaveSealed, NoInputTwice, WhereItEnds}
+use Rattle.promises.proofs.Frames.{each-one, above-one}
+use Rattle.promises.proofs.Sending.{senders-half}
+use Rattle.promises.proofs.BenchLaws.{bench-sending}
+use Rattle.promises.proofs.Examples.{sender-opens, sent-from, sends-from, length-sent}
+
+-- ---- of the formula
+
+different-inputs : DifferentInputs
+different-inputs iov s t m n s-is t-is m-below n-below differ same =
+    let both = input-tells iov (service-most s s-is) (service-most t t-is) (omega (arith, m-below)) (omega (arith, n-below)) same in
+    ⊎-elim (λ services. services (both .0)) (λ numbers. numbers (both .1)) differ
+
+-- ---- of what is sealed
+
+-- where numbers rise, frames with one number stand at one place
+told-by-place : {one other : SentFrame} {frames : List SentFrame} → Rising frames → (first : IsOneOf one frames) (second : IsOneOf other frames) → one .number ≡ other .number
+    → place first ≡ place second
+told-by-place rising here here same = refl
+told-by-place rising here (there later) same = absurd (omega (arith, above-one (rising .0) later, same))
+told-by-place rising (there later) here same = absurd (omega (arith, above-one (rising .0) later, same))
+told-by-place rising (there first) (there second) same = ap suc (told-by-place (rising .1) first second same)
+
+module _ (key : List ℕ) (iov direction : ℕ) where
+  -- what is known of a service of which a frame was sealed
+  record Known (sapi : ℕ) (frames : List SentFrame) : Type 0 where
+    is-key : isKey key ≡ true
+    can-arise : linkCanArise (linkOf key iov sapi direction) ≡ true
+    is-service : isService sapi ≡ true
+    half : SendersHalf frameAt (linkOf key iov sapi direction) frames
+
+  known : {sapi : ℕ} {frame : SentFrame} {frames : List SentFrame} → SealedSince benchSending (λ sender. Answered (openSenderCall key iov sapi direction) 0 [] sender) frames
+      → IsOneOf frame frames → Known sapi frames
+  unfolding newSender linkOf
+  known {sapi} not-opened one = each-one (λ frame. Known sapi []) tt one
+  known {sapi} {frames = frames} (opened is sends) one =
+      let none = sym (is .refusal-is) in
+      let can-arise = opened-link key iov sapi direction none in
+      record {
+        is-key = opened-key key iov sapi direction none;
+        can-arise = can-arise;
+        is-service = link-says (linkOf key iov sapi direction) can-arise .0;
+        half = subst (λ (link : Link). SendersHalf frameAt link frames) (ap (λ (s : Sender). s .link) (opened-sender key iov sapi direction is)) (senders-half frameAt benchSending bench-sending sends);
+      }
+
+  module _ (senders : BenchSenders key iov direction) where
+    known-of : (one : SealedFrame (senders .frames)) → Known (one .sapi) (senders .frames (one .sapi))
+    known-of one = known (senders .sealed (one .sapi)) (one .one)
+
+    below-end : (one : SealedFrame (senders .frames)) → one .frame .number < end
+    below-end one = known-of one .half .each-is (one .frame) (one .one) .before-end
+
+    apart : (one other : SealedFrame (senders .frames)) → (SameCall one other → ⊥) → inputUsed iov one ≡ inputUsed iov other → ⊥
+    unfolding end
+    apart one other two-calls same =
+        let both = input-tells iov (service-most (one .sapi) (known-of one .is-service)) (service-most (other .sapi) (known-of other .is-service)) (omega (arith, below-end one)) (omega (arith, below-end other)) same in
+        let one-place : place (one .one) ≡ place (other .one) =
+        subst (λ (sapi : ℕ). (second : IsOneOf (other .frame) (senders .frames sapi)) → place (one .one) ≡ place second) (both .0)
+        (λ second. told-by-place (known-of one .half .rising) (one .one) second (both .1)) (other .one) in
+        two-calls (both .0, one-place)
+
+    used : (one : SealedFrame (senders .frames))
+        → payloadOf (one .frame .octets) ≡ xored (one .frame .payload) (gea4Output key (inputUsed iov one) direction (length (one .frame .payload)))
+    unfolding ciphered linkOf
+    used one =
+        let its = known-of one in
+        let payload = one .frame .payload in
+        ap payloadOf (its .half .each-is (one .frame) (one .one) .octets-are)
+        ∙ payload-of-frame-at (linkOf key iov (one .sapi) direction) (one .frame .number) (its .can-arise) payload
+        ∙ ap (xored payload) (gea4-prepared key (inputUsed iov one) direction (length payload) (its .is-key))
+
+-- ---- senders that have sealed as much as one likes, each the payload of one octet
+
+module _ (key : List ℕ) (iov direction count : ℕ) (valid : isKey key ≡ true) (way : isDirection direction ≡ true) (most : count ≤ 2 ^ 27) where
+  record OfService (sapi : ℕ) : Type 0 where
+    frames : List SentFrame
+    sealed : SealedSince benchSending (λ sender. Answered (openSenderCall key iov sapi direction) 0 [] sender) frames
+    has : isService sapi ≡ true → length frames ≡ count
+
+  of-service : (sapi : ℕ) → OfService sapi
+  unfolding end
+  of-service sapi =
+      by-test (isService sapi) (OfService sapi)
+      (λ service. record {
+        frames = sent-from key iov sapi direction valid service way (7 ∷ []) (lit≤ tt) (lit≤ tt) 0 count;
+        sealed =
+            opened (sender-opens key iov sapi direction valid service way (7 ∷ []) (lit≤ tt) (lit≤ tt))
+            (sends-from key iov sapi direction valid service way (7 ∷ []) (lit≤ tt) (lit≤ tt) 0 count (omega (arith, most)));
+        has = λ exists. length-sent key iov sapi direction valid service way (7 ∷ []) (lit≤ tt) (lit≤ tt) 0 count;
+      })
+      (λ none. record { frames = []; sealed = not-opened; has = λ exists. absurd (true≢false (sym exists ∙ none)) })
+
+  all-have-sealed : AllHaveSealed key iov direction count
+  all-have-sealed = record {
+    senders = record { frames = λ sapi. of-service sapi .frames; sealed = λ sapi. of-service sapi .sealed };
+    each-has = λ sapi. of-service sapi .has;
+  }
+
+pub no-input-twice : NoInputTwice
+no-input-twice = record {
+  formula = different-inputs;
+  sealed = apart;
+  used = used;
+  some = all-have-sealed;
+}
+
+-- ---- where it ends
+
+-- two frames that share an INPUT tell the xor of their payloads
+telling : (key : List ℕ) (iov other-iov direction : ℕ) (senders : BenchSenders key iov direction) (others : BenchSenders key other-iov direction)
+    (one : SealedFrame (senders .frames)) (other : SealedFrame (others .frames)) → inputUsed iov one ≡ inputUsed other-iov other → length (one .frame .payload) ≡ length (other .frame .payload)
+    → xored (payloadOf (one .frame .octets)) (payloadOf (other .frame .octets)) ≡ xored (one .frame .payload) (other .frame .payload)
+telling key iov other-iov direction senders others one other same long =
+    let stream : List ℕ = gea4Output key (inputUsed other-iov other) direction (length (other .frame .payload)) in
+    ap₂ xored
+    (used key iov direction senders one ∙ ap₂ (λ (input m : ℕ). xored (one .frame .payload) (gea4Output key input direction m)) same long)
+    (used key other-iov direction others other)
+    ∙ xored-shared (one .frame .payload) (other .frame .payload) stream (omega (arith, long))
+
+pub where-it-ends : WhereItEnds
+unfolding isService inputOf sx
+where-it-ends = record {
+  at-the-end = record { one-assigned = refl; other-assigned = refl; same = refl };
+  under-every-offset = λ iov.
+      ⊎-elim
+      (λ same. inl (record { one-assigned = refl; other-assigned = refl; same = same }))
+      (λ same. inr (record { one-assigned = refl; other-assigned = refl; same = same }))
+      (two-meets-three iov);
+  two-offsets = record { one-assigned = refl; other-assigned = refl; same = refl };
+  opened-twice = λ key iov sapi direction one other. opened-sender key iov sapi direction one ∙ sym (opened-sender key iov sapi direction other);
+  state-twice = λ sender one-payload other-payload one-before other-before one other.
+      let first = seal-done sender one-payload one-before one in
+      let second = seal-done sender other-payload other-before other in
+      (first .number-is ∙ sym (second .number-is), first .later-is ∙ sym (second .later-is));
+  tells = telling;
+}

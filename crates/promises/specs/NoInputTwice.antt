@@ -1,0 +1,114 @@
+-- No INPUT used twice (document 02, item 11): of the formula, and of whatever senders of one key, offset and direction seal. Then where it ends: what
+-- meets at 2^27, under two offsets, and when a sender is opened twice. Assumes nothing.
+use Prim.Native.Nat.{ℕ, suc, _^_, _≤_, _<_}
+use mathlib.Core.Path.{_≡_}
+use mathlib.Core.Logic.{_⊎_}
+use mathlib.Core.Bool.{true}
+use mathlib.Core.List.{List, [], _∷_}
+use lib.ListN.{length}
+use Rattle.refusals.specs.Call.{Answered}
+use Rattle.octets.specs.Xor.{xored}
+use Rattle.keystreams.specs.Key.{isKey}
+use Rattle.keystreams.specs.Gea4.{gea4Output}
+use Rattle.frames.specs.Frame.{payloadOf}
+use Rattle.link.specs.Input.{inputOf}
+use Rattle.link.specs.Link.{isService, isDirection}
+use Rattle.sender.specs.declared.Sender.{Sender}
+use Rattle.sender.specs.Sender.{openSenderCall, sealCall}
+use Rattle.promises.specs.Ends.{Sending, SentFrame, Sends, IsOneOf, here, there, benchSending}
+
+-- ---- of the formula
+
+-- under one offset, two frames with different service or number have different INPUT: of all assigned services s and t, and all numbers m and n from
+-- 0 to 2^27 - 1. Key and direction do not go into INPUT
+abbrev pub DifferentInputs : Type 0
+DifferentInputs = (iov s t m n : ℕ) → isService s ≡ true → isService t ≡ true → m < 2 ^ 27 → n < 2 ^ 27
+    → (s ≡ t → ⊥) ⊎ (m ≡ n → ⊥)
+    → inputOf iov s m ≡ inputOf iov t n → ⊥
+
+-- ---- of what is sealed
+
+-- the frames that a sender sealed since it was opened, in their order, by any calls, refused ones too, each given the state that its last call returned;
+-- none where no sender was opened
+pub data SealedSince (sending : Sending) (Opened : sending .State → Type 0) : List SentFrame → Type 0 where
+  not-opened : SealedSince sending Opened []
+  opened : {state last : sending .State} {frames : List SentFrame} → Opened state → Sends sending state frames last → SealedSince sending Opened frames
+
+-- any senders, each of its own service: for each service number what its sender sealed. They share no state, so that nothing is lost by telling the
+-- calls of each by themselves
+pub record Senders (sending : Sending) (Opened : ℕ → sending .State → Type 0) : Type 0 where
+  pub frames : ℕ → List SentFrame
+  pub sealed : (sapi : ℕ) → SealedSince sending (Opened sapi) (frames sapi)
+
+-- the senders of the bench, newly opened with one key, offset and direction
+abbrev pub BenchSenders : List ℕ → ℕ → ℕ → Type 0
+BenchSenders key iov direction = Senders benchSending (λ sapi sender. Answered (openSenderCall key iov sapi direction) 0 [] sender)
+
+-- a frame that one of the senders sealed: its service, and which of that sender's frames it is
+pub record SealedFrame (frames : ℕ → List SentFrame) : Type 0 where
+  pub sapi : ℕ
+  pub frame : SentFrame
+  pub one : IsOneOf frame (frames sapi)
+
+-- how many frames stand before this one
+abbrev pub place : {frame : SentFrame} {frames : List SentFrame} → IsOneOf frame frames → ℕ
+place here = 0
+place (there later) = suc (place later)
+
+-- two sealed frames are of the same seal call: one sender sealed both, and as many frames before either
+abbrev pub SameCall : {frames : ℕ → List SentFrame} → SealedFrame frames → SealedFrame frames → Type 0
+SameCall one other = (one .sapi ≡ other .sapi) × (place (one .one) ≡ place (other .one))
+
+-- the INPUT of a sealed frame: of the offset, its service and the number that its seal call handed out
+abbrev pub inputUsed : {frames : ℕ → List SentFrame} → ℕ → SealedFrame frames → ℕ
+inputUsed iov sealed = inputOf iov (sealed .sapi) (sealed .frame .number)
+
+-- senders of all assigned services, each of which has sealed so many frames
+pub record AllHaveSealed (key : List ℕ) (iov direction count : ℕ) : Type 0 where
+  pub senders : BenchSenders key iov direction
+  pub each-has : (sapi : ℕ) → isService sapi ≡ true → length (senders .frames sapi) ≡ count
+
+pub record NoInputTwice : Type 0 where
+  pub formula : DifferentInputs
+  -- two sealed frames that are not of the same seal call have different INPUT
+  pub sealed : (key : List ℕ) (iov direction : ℕ) (senders : BenchSenders key iov direction) (one other : SealedFrame (senders .frames))
+      → (SameCall one other → ⊥)
+      → inputUsed iov one ≡ inputUsed iov other → ⊥
+  -- and this is the INPUT that was used: what stands after a frame's header is its payload xor the GEA4 octets of this INPUT
+  pub used : (key : List ℕ) (iov direction : ℕ) (senders : BenchSenders key iov direction) (one : SealedFrame (senders .frames))
+      → payloadOf (one .frame .octets) ≡ xored (one .frame .payload) (gea4Output key (inputUsed iov one) direction (length (one .frame .payload)))
+  -- there are such senders, of every key, offset and direction, with as many frames as one likes, up to all 2^27 of each service
+  pub some : (key : List ℕ) (iov direction count : ℕ) → isKey key ≡ true → isDirection direction ≡ true → count ≤ 2 ^ 27 → AllHaveSealed key iov direction count
+
+-- ---- where it ends
+
+-- frame m of service s under one offset and frame n of service t under another, or the same, share their INPUT; both services are assigned
+pub record Meet (iov s m other-iov t n : ℕ) : Type 0 where
+  pub one-assigned : isService s ≡ true
+  pub other-assigned : isService t ≡ true
+  pub same : inputOf iov s m ≡ inputOf other-iov t n
+
+pub record WhereItEnds : Type 0 where
+  -- at 2^27: if service 1 went on to number 2^27, it would meet number 0 of service 2, under offset 01234567
+  pub at-the-end : Meet 0x01234567 1 (2 ^ 27) 0x01234567 2 0
+  -- and no offset keeps all services apart there: 2 meets 3, or 3 meets 2
+  pub under-every-offset : (iov : ℕ) → Meet iov 2 (2 ^ 27) iov 3 0 ⊎ Meet iov 3 (2 ^ 27) iov 2 0
+  -- two offsets under one key: number 1 under offset 0 meets number 0 under offset 1
+  pub two-offsets : Meet 0 3 1 1 3 0
+  -- a sender opened twice: the same call gives the same state,
+  pub opened-twice : (key : List ℕ) (iov sapi direction : ℕ) {one other : Sender}
+      → Answered (openSenderCall key iov sapi direction) 0 [] one
+      → Answered (openSenderCall key iov sapi direction) 0 [] other
+      → one ≡ other
+  -- and a state that two seal calls are given seals two frames of one number, so of one INPUT, and leaves one state, so that what follows repeats too
+  pub state-twice : (sender : Sender) (one-payload other-payload one-before other-before : List ℕ) {m n one-size other-size : ℕ} {one-later other-later : Sender} {one-after other-after : List ℕ}
+      → Answered (sealCall sender one-payload one-before) 0 (m ∷ one-size ∷ []) (record { sender = one-later; output = one-after })
+      → Answered (sealCall sender other-payload other-before) 0 (n ∷ other-size ∷ []) (record { sender = other-later; output = other-after })
+      → (m ≡ n) × (one-later ≡ other-later)
+  -- what a repeated INPUT tells everybody who listens: of two sealed frames of one key and direction that share it, with payloads of one length, the xor
+  -- of what is on the air is the xor of the payloads
+  pub tells : (key : List ℕ) (iov other-iov direction : ℕ) (senders : BenchSenders key iov direction) (others : BenchSenders key other-iov direction)
+      (one : SealedFrame (senders .frames)) (other : SealedFrame (others .frames))
+      → inputUsed iov one ≡ inputUsed other-iov other
+      → length (one .frame .payload) ≡ length (other .frame .payload)
+      → xored (payloadOf (one .frame .octets)) (payloadOf (other .frame .octets)) ≡ xored (one .frame .payload) (other .frame .payload)
