@@ -80,14 +80,15 @@ module _ (key : List ℕ) (iov direction : ℕ) where
     below-end : (one : SealedFrame (senders .frames)) → one .frame .number < end
     below-end one = known-of one .half .each-is (one .frame) (one .one) .before-end
 
-    apart : (one other : SealedFrame (senders .frames)) → (SameCall one other → ⊥) → inputUsed iov one ≡ inputUsed iov other → ⊥
+    -- two sealed frames that share an INPUT are of the same seal call
+    same-call : (one other : SealedFrame (senders .frames)) → inputUsed iov one ≡ inputUsed iov other → SameCall one other
     unfolding end
-    apart one other two-calls same =
-        let both = input-tells iov (service-most (one .sapi) (known-of one .is-service)) (service-most (other .sapi) (known-of other .is-service)) (omega (arith, below-end one)) (omega (arith, below-end other)) same in
-        let one-place : place (one .one) ≡ place (other .one) =
-        subst (λ (sapi : ℕ). (second : IsOneOf (other .frame) (senders .frames sapi)) → place (one .one) ≡ place second) (both .0)
-        (λ second. told-by-place (known-of one .half .rising) (one .one) second (both .1)) (other .one) in
-        two-calls (both .0, one-place)
+    same-call one other same =
+        let both = input-tells iov (service-most (one .sapi) (known-of one .is-service)) (service-most (other .sapi) (known-of other .is-service)) (omega (arith, below-end one)) (omega (arith, below-end other)) same in (
+          both .0,
+          subst (λ (sapi : ℕ). (second : IsOneOf (other .frame) (senders .frames sapi)) → place (one .one) ≡ place second) (both .0)
+              (λ second. told-by-place (known-of one .half .rising) (one .one) second (both .1)) (other .one),
+        )
 
     used : (one : SealedFrame (senders .frames))
         → payloadOf (one .frame .octets) ≡ xored (one .frame .payload) (gea4Output key (inputUsed iov one) direction (length (one .frame .payload)))
@@ -129,7 +130,7 @@ module _ (key : List ℕ) (iov direction count : ℕ) (valid : isKey key ≡ tru
 pub no-input-twice : NoInputTwice
 no-input-twice = record {
   formula = different-inputs;
-  sealed = apart;
+  sealed = λ key iov direction senders one other two-calls same. two-calls (same-call key iov direction senders one other same);
   used = used;
   some = all-have-sealed;
 }
