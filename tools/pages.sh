@@ -2,8 +2,9 @@
 # Fails when a page names a file or a name that does not exist, or leads to a heading that does not; when docs/USING.md does not show the files of the
 # crate `using` as they are; when docs/CALLS.md or the list that promises 1 and 2 speak of do not have exactly the public calls, or the lines of `call`
 # on docs/CALLS.md are not those of the library's; when the contract of a public call does not cite its entry of that list, or leaves out something that
-# the call gives back; when docs/ARCHITECTURE.md does not say what crates.txt says; when docs/FRAME.md does not have exactly the services of the
-# definition; when docs/PROMISES.md calls a changed statement a wrong program; or when a public function has a `requires`.
+# the call gives back; when the statement of the short keys leaves out a call with a parameter `key` that may have 8 octets; when docs/ARCHITECTURE.md does not say what crates.txt
+# says; when docs/FRAME.md does not have exactly the services of the definition; when docs/PROMISES.md calls a changed statement a wrong program; or
+# when a public function has a `requires`.
 # On the pages, `crate/folder/File.ext#name` is a name in a file under crates/, and `a/path.ext` a file.
 set -euo pipefail
 top=$(cd "$(dirname "$0")/.." && pwd -P)
@@ -70,6 +71,16 @@ cited=$(while read -r call form entry; do
     if head_of "$call" | grep -qE "$says( |\)|\$)"; then echo "$call"; fi
 done < <(sed -nE '/^ *-- [a-z0-9_]+::[a-z0-9_]+$/ { N; s/^ *-- ([a-z0-9_:]+)\n *(function|call[0-9]) \(?([^()]*[^() ])\)? ∷.*/\1 \2 \3/p }' crates/promises/specs/Calls.antt) | sort)
 [ "$calls" = "$cited" ] || { fault 'these contracts do not cite their entry of the promises:'; diff <(echo "$cited") <(echo "$calls") >&2 || true; }
+
+# The calls with a parameter `key`, but for those that take 16 octets only, stand in the list of the short keys, each by its entry of the promises' list.
+whole_keys='kasumi::kasumi kgcore::kgcore'
+entries() { sed -nE "/^ *-- [a-z0-9_]+::[a-z0-9_]+\$/ { N; s/^ *-- ([a-z0-9_:]+)\n *$2([0-9] .*) ∷.*/\1 \2/p }" "$1"; }
+keyed=$(entries crates/promises/specs/Calls.antt call | while read -r call entry; do
+    case " $whole_keys " in *" $call "*) continue ;; esac
+    if head_of "$call" | grep -q 'key: &\[u8\]'; then echo "$call $entry"; fi
+done)
+prepared=$(entries crates/promises/specs/ShortKeys.antt key)
+[ -n "$prepared" ] && [ "$keyed" = "$prepared" ] || { fault 'the short keys do not speak of exactly the calls that take a key:'; diff <(echo "$prepared") <(echo "$keyed") >&2 || true; }
 
 # Each contract speaks of every lent output afterwards and of every field of the answer.
 for call in $calls; do

@@ -1,11 +1,16 @@
-//! A5/4 for GSM, A5/4 for ECSD and GEA4, each as a use of KGCORE.
-//! Follows source document 004, clauses 5.3, 6.3 and 7.3.
+//! A5/4 for GSM, A5/4 for ECSD and GEA4, each as a use of KGCORE, and the key CK that KGCORE takes.
+//! Follows source document 004, clauses 5.3, 6.3 and 7.3, and document 02, item 1.
 
 use crate::bits::{of_number, zeros, Bits};
 use crate::kgcore::{kgcore, Inputs};
 
 pub const GSM_BLOCK_BITS: usize = 114;
 pub const ECSD_BLOCK_BITS: usize = 348;
+
+/// CK: the bits of Kc, over and over, until 128 are filled. Kc has 64 bits (A5/3, GEA3) or 128.
+pub fn ck(kc: &[bool]) -> Option<Bits> {
+    [64, 128].contains(&kc.len()).then(|| kc.iter().copied().cycle().take(128).collect())
+}
 
 /// BLOCK1 and BLOCK2 of GSM for a key of 128 bits and a COUNT of 22.
 pub fn gsm(key: &[bool], count: &[bool]) -> [Bits; 2] {

@@ -22,7 +22,7 @@ pub fn first(causes: &[(u8, bool)]) -> u8 {
     causes.iter().find(|(_, holds)| *holds).map_or(NONE, |&(number, _)| number)
 }
 
-/// 1: the key has not 16 octets.
+/// 1, of KASUMI and KGCORE: the key has not 16 octets.
 pub fn bad_key(key: &[u8]) -> bool {
     key.len() != 16
 }

@@ -4,8 +4,10 @@
 
 use crate::bits::{of_number, of_octets, to_number, Bits};
 use crate::kasumi::kasumi;
-use crate::lines::{based, octets};
+use crate::lines::{based, hex, octets};
 use crate::link::states::{Link, Sender};
+use crate::product::ciphers::prepare_key;
+use crate::refusals::NONE;
 use std::collections::BTreeMap;
 use std::str::FromStr;
 
@@ -54,19 +56,23 @@ impl<'file> Set<'file> {
         octets(value.as_bytes()).ok_or(format!("{name} = {value} is not octets"))
     }
 
-    /// The digits of the key; a key of 8 octets stands for the same key twice.
-    fn key(&self) -> Result<String, String> {
-        let key = self.value("key")?;
-        Ok(if key.len() == 16 { key.repeat(2) } else { key.to_string() })
-    }
-
-    fn key_octets(&self) -> Result<[u8; 16], String> {
-        let key = octets(self.key()?.as_bytes()).and_then(|key| key.try_into().ok());
-        key.ok_or("a key is not 16 octets of hex".to_string())
+    /// The 16 octets that the key yields.
+    fn prepared_key(&self) -> Result<[u8; 16], String> {
+        match prepare_key(&self.octets("key")?) {
+            (NONE, key) => Ok(key),
+            _ => Err(format!("key = {} is not 8 or 16 octets", self.value("key")?)),
+        }
     }
 
     pub fn key_bits(&self) -> Result<Bits, String> {
-        Ok(of_octets(&self.key_octets()?))
+        Ok(of_octets(&self.prepared_key()?))
+    }
+
+    /// The digits of the key as the set has it, and of its 16 octets where these are others.
+    fn both_keys(&self) -> Result<Vec<String>, String> {
+        let mut keys = vec![self.value("key")?.to_string(), hex(&self.prepared_key()?)];
+        keys.dedup();
+        Ok(keys)
     }
 }
 
@@ -91,9 +97,9 @@ pub fn calls(file: &str) -> Result<Vec<Published>, String> {
         if set.has("co") {
             calls.push(kgcore(&set)?);
         } else if set.has("kind") {
-            calls.push(a5(&set)?);
+            calls.extend(a5(&set)?);
         } else if set.has("m") {
-            calls.push(gea4(&set)?);
+            calls.extend(gea4(&set)?);
         } else {
             calls.extend(chain(&set)?);
         }
@@ -105,7 +111,7 @@ pub fn calls(file: &str) -> Result<Vec<Published>, String> {
 pub fn recorded(file: &str) -> Result<Vec<Recorded>, String> {
     let recorded = |set: &Set| {
         let link = Link {
-            key: set.key_octets()?,
+            key: set.prepared_key()?,
             iov: set.hex("iov")?,
             sapi: set.decimal("sapi")?,
             direction: set.decimal("direction")?,
@@ -123,40 +129,44 @@ fn kgcore(set: &Set) -> Result<Published, String> {
     let value = |name| set.value(name);
     let (ca, cb, cc) = (value("ca")?, value("cb")?, value("cc")?);
     let (cd, ce, co) = (value("cd")?, value("ce")?, value("co")?);
-    let (key, cl, room) = (set.key()?, set.decimal::<usize>("bits")?, co.len() / 2);
+    let (key, cl, room) = (value("key")?, set.decimal::<usize>("bits")?, co.len() / 2);
     Ok(Published {
         call: format!("kgcore {key} 0x{ca} 0x{cb} 0x{cc} 0x{cd} 0x{ce} {cl} {room}"),
         answer: Some(format!("0 {co}")),
     })
 }
 
-fn a5(set: &Set) -> Result<Published, String> {
+/// A set of A5/3 is two calls: with its own key of 8 octets, and with that key twice.
+fn a5(set: &Set) -> Result<Vec<Published>, String> {
     let (name, room) = match set.value("kind")? {
         "GSM" => ("gsm", 15),
         "ECSD" => ("ecsd", 44),
         other => return Err(format!("kind = {other} is neither GSM nor ECSD")),
     };
-    let (key, count) = (set.key()?, set.value("count")?);
+    let count = set.value("count")?;
     let (block1, block2) = (set.value("block1")?, set.value("block2")?);
-    Ok(Published {
+    let published = |key: String| Published {
         call: format!("{name} {key} 0x{count} {room} {room}"),
         answer: Some(format!("0 {block1} {block2}")),
-    })
+    };
+    Ok(set.both_keys()?.into_iter().map(published).collect())
 }
 
-fn gea4(set: &Set) -> Result<Published, String> {
-    let (key, input, direction) = (set.key()?, set.value("input")?, set.value("direction")?);
+/// So is a set of GEA3.
+fn gea4(set: &Set) -> Result<Vec<Published>, String> {
+    let (input, direction) = (set.value("input")?, set.value("direction")?);
     let (m, output) = (set.decimal::<usize>("m")?, set.value("output")?);
-    Ok(Published {
+    let published = |key: String| Published {
         call: format!("gea4 {key} 0x{input} {direction} {m} {m}"),
         answer: Some(format!("0 {output}")),
-    })
+    };
+    Ok(set.both_keys()?.into_iter().map(published).collect())
 }
 
 /// A set of KASUMI, with `times` a chain of calls. Only the answer to the last call is
 /// published; the inputs on the way are this program's own.
 fn chain(set: &Set) -> Result<Vec<Published>, String> {
-    let (key, key_bits, output) = (set.key()?, set.key_bits()?, set.value("output")?);
+    let (key, key_bits, output) = (set.value("key")?, set.key_bits()?, set.value("output")?);
     let times = if set.has("times") { set.decimal("times")? } else { 1 };
     let mut block: u64 = set.hex("input")?;
     let mut calls = Vec::new();
@@ -183,11 +193,16 @@ mod tests {
     }
 
     #[test]
-    fn a_short_key_is_doubled_and_a_chain_ends_in_the_published_value() {
+    fn a_short_key_stands_as_it_is_and_doubled_and_a_chain_ends_in_the_published_value() {
         let gsm = "kind = GSM\nkey = 0123456789ABCDEF\ncount = 01\nblock1 = 11\nblock2 = 22";
-        let published = &calls(gsm).unwrap()[0];
-        assert_eq!(published.call, "gsm 0123456789ABCDEF0123456789ABCDEF 0x01 15 15");
-        assert_eq!(published.answer.as_deref(), Some("0 11 22"));
+        let both = calls(gsm).unwrap();
+        let keys = ["0123456789ABCDEF", "0123456789ABCDEF0123456789ABCDEF"];
+        assert_eq!(both.len(), keys.len());
+        for (published, key) in both.iter().zip(keys) {
+            assert_eq!(published.call, format!("gsm {key} 0x01 15 15"));
+            assert_eq!(published.answer.as_deref(), Some("0 11 22"));
+        }
+        assert!(calls(&gsm.replace("EF", "")).is_err());
 
         let answers = calls(KASUMI).unwrap().into_iter().map(|published| published.answer);
         assert_eq!(answers.filter(Option::is_none).count(), 49);

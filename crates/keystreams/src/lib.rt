@@ -1,11 +1,12 @@
-// The keystreams of document 004: A5/4 for GSM, A5/4 for ECSD and GEA4 for GPRS. Each is KGCORE with the fixed inputs of its kind.
+// The keystreams of document 004: A5/4 for GSM, A5/4 for ECSD and GEA4 for GPRS. Each is KGCORE with the fixed inputs of its kind. Under a key of
+// 8 octets they are A5/3 and GEA3.
 pub mod kinds;
 
 ghost use mathlib.Core.Path.{_≡_};
 ghost use Prim.Native.Nat.{_<_, _≤_};
 ghost use mathlib.Core.List.{[]};
 ghost use Rattle.refusals.specs.Call.{Answered};
-ghost use Rattle.keystreams.specs.Key.{prepareKeyCall};
+ghost use Rattle.keystreams.specs.Key.{isKey, sourceOf, prepareKeyCall};
 ghost use Rattle.keystreams.specs.A5.{a5Call, gsmKind, ecsdKind};
 ghost use Rattle.keystreams.specs.Gea4.{gea4Call};
 use kgcore::Inputs;
@@ -20,18 +21,40 @@ pub struct PreparedKey {
     pub key: [u8; 16],
 }
 
-// Prepares a key. A key of 16 octets yields itself.
+// A key has 8 octets or 16.
+fn is_key(key: &[u8]) -> bool
+    ensures { λ r. ⌜ r ≡ isKey (now (key .entry)) ⌝ }
+{
+    (key.len() == 8) | (key.len() == 16)
+}
+
+// Which octet of a key of `size` octets stands at place i of the 16 (document 004, 5.3): past the key's end it begins anew.
+fn source(size: usize, i: usize) -> usize
+    requires { ⌜ i < 16 ⌝ }
+    ensures { λ r. ⌜ r ≡ sourceOf size i ⌝ }
+{
+    if i < size {
+        return i;
+    }
+    i - size
+}
+
+// Prepares a key. One of 8 octets yields itself twice, one of 16 itself.
 pub fn prepare_key(key: &[u8]) -> PreparedKey
     ensures { λ r. ⌜ Answered (prepareKeyCall (now (key .entry))) (r .refusal) [] (r .key) ⌝ }
 {
     let mut octets = [0u8; 16];
-    if key.len() != 16 {
+    if !is_key(key) {
         return PreparedKey {
             refusal: refusals::KEY,
             key: octets,
         };
     }
-    bytes::copy(key, &mut octets);
+    let mut i = 0;
+    while i < 16 {
+        octets[i] = key[source(key.len(), i)];
+        i += 1;
+    }
     PreparedKey {
         refusal: 0,
         key: octets,

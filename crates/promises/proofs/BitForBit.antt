@@ -1,20 +1,43 @@
 -- The keystreams are KGCORE's output, bit for bit. Assumes nothing.
-use Prim.Native.Nat.{ℕ, _+_, _*_, _<_}
+use Prim.Native.Nat.{ℕ, _+_, _*_, _/_, _%_, _<_}
 use native.Mathlib.Omega.{arith}
-use mathlib.Core.Path.{_≡_, refl, ap, subst, _∙_}
+use mathlib.Core.Path.{_≡_, refl, sym, ap, subst, _∙_}
+use mathlib.Core.Bool.{true}
 use mathlib.Core.List.{List, _++_}
-use lib.ListN.{drop}
+use lib.ListN.{length, getD, drop}
 use lib.Seq.{drop-at}
 use Rattle.refusals.specs.Call.{front, Outputs}
-use Rattle.octets.specs.Bits.{bitOf, part, size, stored}
+use Rattle.octets.specs.Bits.{bitAt, bitOf, part, size, stored}
 use Rattle.octets.proofs.Stored.{length-stored, front-stored, part-in, part-out, part-of-stored}
 use Rattle.kgcore.specs.declared.Inputs.{Inputs}
 use Rattle.kgcore.specs.Kgcore.{keyBit}
 use Rattle.kgcore.proofs.Laws.{keyBit-lt}
-use Rattle.keystreams.specs.Key.{prepared}
+use Rattle.keystreams.specs.Key.{isKey, prepared}
 use Rattle.keystreams.specs.A5.{gsmKind, ecsdKind, half, block1, block2, a5Inputs}
 use Rattle.keystreams.specs.Gea4.{gea4Output, gea4Inputs}
-use Rattle.promises.specs.BitForBit.{HoldsBits, BitForBit}
+use Rattle.keystreams.proofs.Keys.{key-most, length-prepared, prepared-octet, source-before, source-past, prepare-done}
+use Rattle.promises.specs.BitForBit.{HoldsBits, FilledUp, BitForBit}
+
+-- ---- what a key yields is the key filled up
+
+module _ (key : List ℕ) (is : isKey key ≡ true) where
+  filled-up : FilledUp key (prepared key)
+  unfolding bitOf
+  filled-up = record {
+    size = length-prepared key is;
+    own = λ i below.
+        ap (λ (octet : ℕ). bitAt 8 octet (i % 8))
+        (prepared-octet key (i / 8) is (omega (arith, key-most key is, below))
+        ∙ ap (λ (k : ℕ). getD key k 0) (source-before (length key) (i / 8) (omega (arith, below))));
+    anew = λ i below.
+        ap (λ (place : ℕ). bitAt 8 (getD (prepared key) place 0) ((8 * length key + i) % 8)) {y = length key + i / 8} (omega arith)
+        ∙ ap (bitAt 8 (getD (prepared key) (length key + i / 8) 0)) {y = i % 8} (omega arith)
+        ∙ ap (λ (octet : ℕ). bitAt 8 octet (i % 8))
+        (prepared-octet key (length key + i / 8) is (omega (arith, below))
+        ∙ ap (λ (k : ℕ). getD key k 0) (source-past (length key) (length key + i / 8) (omega arith) ∙ omega arith));
+  }
+
+-- ---- the keystreams
 
 -- what a success leaves holds the bits
 module _ (key : List ℕ) (inputs : Inputs) (start count : ℕ) (before after : List ℕ) (is : after ≡ front (stored (keyBit key inputs) start count) before) where
@@ -40,6 +63,9 @@ module _ (key : List ℕ) (inputs : Inputs) (start count : ℕ) (before after : 
 pub bit-for-bit : BitForBit
 unfolding block1 block2 half gsmKind ecsdKind gea4Output size
 bit-for-bit = record {
+  preparation = λ key answered.
+      let done = prepare-done key answered refl in
+      (done .1, subst (FilledUp key) (sym (done .1)) (filled-up key (done .0)));
   kgcore = λ inputs key cl octets before {output} answered enough fewest. holds-bits key inputs 0 cl before output (answered .lent-is) octets (omega arith);
   gsm = λ key count before {blocks} answered. (
     holds-bits (prepared key) (a5Inputs gsmKind count) 0 114 (before .one) (blocks .one) (ap (λ (l : Outputs). l .one) (answered .lent-is)) 15 refl,

@@ -22,15 +22,17 @@ use Rattle.numbering.proofs.Marks.{accepted-marks}
 use Rattle.frames.specs.Frame.{AreOctets, frame, headerOf, payloadOf, lookOrder}
 use Rattle.frames.proofs.ReadBack.{length-payload, header-of-range, frame-of-octets}
 use Rattle.frames.proofs.Laws.{look-empty}
-use Rattle.link.specs.Link.{ciphered, headerAt, frameAt}
+use Rattle.link.specs.declared.Link.{Link}
+use Rattle.link.specs.Link.{linkOf, ciphered, headerAt, frameAt}
 use Rattle.link.proofs.Frames.{length-ciphered, ciphered-twice, length-frame-at}
 use Rattle.sender.specs.declared.Sender.{Sender}
-use Rattle.sender.specs.Sender.{afterFrame}
-use Rattle.sender.proofs.Laws.{seal-done}
+use Rattle.sender.specs.Sender.{newSender, afterFrame}
+use Rattle.sender.proofs.Laws.{opened-sender, seal-done}
 use Rattle.receiver.specs.declared.Receiver.{Receiver}
-use Rattle.receiver.specs.Receiver.{Opening, afterAccepting, isOfLink, candidateOf, openOrder, openCall}
+use Rattle.receiver.specs.Receiver.{Opening, newReceiver, afterAccepting, isOfLink, candidateOf, openOrder, openCall}
+use Rattle.receiver.proofs.Laws.{opened-receiver}
 use Rattle.receiver.proofs.Opening.{receiver-says}
-use Rattle.promises.specs.ByTheRule.{SealedByTheRule, OpenedByTheRule, IsNumbered, IsNumberedAs, OpenRefusals, ByTheRule}
+use Rattle.promises.specs.ByTheRule.{HoldsLink, SealedByTheRule, OpenedByTheRule, IsNumbered, IsNumberedAs, OpenRefusals, ByTheRule}
 
 -- ---- the rows of opening a frame, in the paper's words
 
@@ -278,9 +280,24 @@ module _ (w : ℕ) (wide : 0 < w) (narrow : w ≤ 512) (receiver : Receiver) (oc
         link-is = ap (λ (r : Receiver). r .link) moved;
       }
 
+-- ---- the link of an end that was opened
+
+holds-link : (key : List ℕ) (iov sapi direction : ℕ) {link : Link} → link ≡ linkOf key iov sapi direction → HoldsLink key iov sapi direction link
+unfolding linkOf
+holds-link key iov sapi direction is = record {
+  key-is = ap (λ (l : Link). l .key) is;
+  iov-is = ap (λ (l : Link). l .iov) is;
+  sapi-is = ap (λ (l : Link). l .sapi) is;
+  direction-is = ap (λ (l : Link). l .direction) is;
+}
+
 pub by-the-rule : (w : ℕ) → 0 < w → w ≤ 512 → ByTheRule w
-unfolding afterFrame front
+unfolding newSender newReceiver afterFrame front
 by-the-rule w wide narrow = record {
+  sender-opened = λ key iov sapi direction answered.
+      holds-link key iov sapi direction (ap (λ (s : Sender). s .link) (opened-sender key iov sapi direction answered));
+  receiver-opened = λ key iov sapi direction answered.
+      holds-link key iov sapi direction (ap (λ (r : Receiver). r .link) (opened-receiver key iov sapi direction answered));
   sealed = λ sender payload before {number} {size} {later} {after} answered.
       let done = seal-done sender payload before answered in
       let whole : List ℕ = frameAt (sender .link) (sender .next) payload in

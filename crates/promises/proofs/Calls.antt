@@ -21,7 +21,7 @@ use Rattle.lines.specs.Text.{roomOrder, hexOrder}
 use Rattle.promises.specs.Calls.{publicCalls}
 
 infixr 5 _⊗_
-_⊗_ : {A B : Type 0} → A → B → A × B
+pub _⊗_ : {A B : Type 0} → A → B → A × B
 one ⊗ rest = (one, rest)
 
 -- whatever a call of one to five inputs is given

@@ -6,14 +6,14 @@ use native.Mathlib.Nat.{add-zero}
 use native.Mathlib.Numerals.{add-one}
 use mathlib.Core.Path.{_≡_, refl, sym, ap, ap₂, subst, _∙_}
 use mathlib.Core.Bool.{true, false}
-use mathlib.Core.List.{List, [], _∷_}
+use mathlib.Core.List.{List, [], _∷_, _++_}
 use borrow.Author.Tests.{le-leb, eqb-false}
 use lib.Dec.{T, leb, ltb, lit<, lit≤}
 use lib.ListN.{length, take, replicate, length-replicate}
 use Rattle.refusals.specs.Refusal.{first}
-use Rattle.refusals.specs.Call.{Answered, front}
+use Rattle.refusals.specs.Call.{Call, Answered, front}
 use Rattle.refusals.proofs.Calls.{done, refused as refused-with}
-use Rattle.keystreams.specs.Key.{isKey}
+use Rattle.keystreams.specs.Key.{isKey, prepared}
 use Rattle.frames.specs.Frame.{frame, lookOrder, isWhole}
 use Rattle.numbering.specs.declared.Numbering.{Numbering}
 use Rattle.numbering.specs.Numbering.{width, numberingOf, start, end, InWindow, marksOf, mark, canArise, isAccepted, accepted}
@@ -32,6 +32,7 @@ use Rattle.promises.specs.Ends.{SealCall, OpenCall, SentFrame, frameSeal
 use Rattle.promises.specs.Examples.{RunOf, Shown}
 use Rattle.promises.proofs.Sending.{senders-half}
 use Rattle.promises.proofs.BenchLaws.{bench-sending}
+use Rattle.promises.proofs.ShortKeys.{receiver-same}
 
 -- the turn is not on the air: the frame of a number is, for every number with the same nine bits, the frame of that number with another payload
 pub turn-not-on-air : (link : Link) (m n : ℕ) (payload : List ℕ) → m % 512 ≡ n % 512 → frameAt link m payload ≡ frameAt link n (ciphered link n (ciphered link m payload))
@@ -235,21 +236,6 @@ module _ (key : List ℕ) (iov sapi direction : ℕ) (valid : isKey key ≡ true
   unfolding canArise isAccepted marksOf mark accepted end
   from-0 = new 0 (ready refl tt tt tt) refl (silence refl (no-room 480 (ready refl tt tt tt) refl (new 480 (ready refl tt tt tt) refl (new 478 (ready refl tt tt tt) refl from-481))))
 
-  abbrev run-of : {last : Numbering} {numbers : List ℕ} → Going start last numbers → RunOf width key iov sapi direction numbers
-  run-of {last} going = record {
-    sender = sender-at 0;
-    sender-last = sender-at 962;
-    receiver = receiver-at start;
-    receiver-last = receiver-at last;
-    frames = frames;
-    sender-opened = sender-opens;
-    receiver-opened = receiver-opens;
-    sent = all-sent;
-    events = going .events;
-    in-window = going .in-window;
-    arrived = going .arrived;
-  }
-
   -- a frame is handed out under the one number of the window with its nine bits
   garbled : ℕ → ℕ → List ℕ
   garbled m n = ciphered link n (ciphered link m payload)
@@ -287,43 +273,69 @@ module _ (key : List ℕ) (iov sapi direction : ℕ) (valid : isKey key ≡ true
   unfolding canArise isAccepted marksOf mark accepted end
   up-to-34 = new 0 (ready refl tt tt tt) refl (new 33 (ready refl tt tt tt) refl stop)
 
-  pub shown : Shown key iov sapi direction
-  unfolding canArise isAccepted marksOf mark accepted end
-  shown = record {
-    over-a-rollover = run-of from-0;
-    up-to-481 = run-of up-to-481;
-    above = record {
-      frame = sent-at 961;
-      call = garbled-call 961 449;
-      later = receiver-at (numberingOf 481 2147483649);
-      next-is = refl;
-      number-is = refl;
-      one = one-of 961 (lit< tt);
-      presented = refl;
-      room = omega arith;
-      opens = taken-for {numbering = numberingOf 481 1} 961 449 (lit< tt) refl (ready refl tt tt tt) refl;
-      handed-out = refl;
-      under = refl;
-      not-its-own = eqb-false 449 961 refl;
-    };
-    up-to-34 = run-of up-to-34;
-    below = record {
-      frame = sent-at 1;
-      call = garbled-call 1 513;
-      later = receiver-at (numberingOf 514 1);
-      next-is = refl;
-      number-is = refl;
-      one = one-of 1 (lit< tt);
-      presented = refl;
-      room = omega arith;
-      opens = taken-for {numbering = numberingOf 34 1} 1 513 (lit< tt) refl (ready refl tt tt tt) refl;
-      handed-out = refl;
-      under = refl;
-      not-its-own = eqb-false 513 1 refl;
-    };
-  }
+  -- ---- the receiver may have been handed another key that yields the same
+  module _ (other : List ℕ) (other-valid : isKey other ≡ true) (same : prepared key ≡ prepared other) where
+    other-opens : Answered (openReceiverCall other iov sapi direction) 0 [] (receiver-at start)
+    other-opens =
+        subst (λ (entry : Call Receiver). Answered entry 0 [] (receiver-at start)) (receiver-same key other (valid ∙ sym other-valid) same iov sapi direction)
+        receiver-opens
 
--- and of one link in particular, with a key of zeros and a payload of one octet
-pub shown-once : Shown (replicate 16 0) 0x01234567 3 0
-unfolding isKey isService isDirection
-shown-once = shown (replicate 16 0) 0x01234567 3 0 refl refl refl (7 ∷ []) (lit≤ tt) (lit≤ tt)
+    abbrev run-of : {last : Numbering} {numbers : List ℕ} → Going start last numbers → RunOf width key other iov sapi direction numbers
+    run-of {last} going = record {
+      sender = sender-at 0;
+      sender-last = sender-at 962;
+      receiver = receiver-at start;
+      receiver-last = receiver-at last;
+      frames = frames;
+      same-key = same;
+      sender-opened = sender-opens;
+      receiver-opened = other-opens;
+      sent = all-sent;
+      events = going .events;
+      in-window = going .in-window;
+      arrived = going .arrived;
+    }
+
+    pub shown : Shown key other iov sapi direction
+    unfolding canArise isAccepted marksOf mark accepted end
+    shown = record {
+      over-a-rollover = run-of from-0;
+      up-to-481 = run-of up-to-481;
+      above = record {
+        frame = sent-at 961;
+        call = garbled-call 961 449;
+        later = receiver-at (numberingOf 481 2147483649);
+        next-is = refl;
+        number-is = refl;
+        one = one-of 961 (lit< tt);
+        presented = refl;
+        room = omega arith;
+        opens = taken-for {numbering = numberingOf 481 1} 961 449 (lit< tt) refl (ready refl tt tt tt) refl;
+        handed-out = refl;
+        under = refl;
+        not-its-own = eqb-false 449 961 refl;
+      };
+      up-to-34 = run-of up-to-34;
+      below = record {
+        frame = sent-at 1;
+        call = garbled-call 1 513;
+        later = receiver-at (numberingOf 514 1);
+        next-is = refl;
+        number-is = refl;
+        one = one-of 1 (lit< tt);
+        presented = refl;
+        room = omega arith;
+        opens = taken-for {numbering = numberingOf 34 1} 1 513 (lit< tt) refl (ready refl tt tt tt) refl;
+        handed-out = refl;
+        under = refl;
+        not-its-own = eqb-false 513 1 refl;
+      };
+    }
+
+-- and of one link in particular: the sender is handed a key of 8 octets, the receiver that key doubled, and the payload has one octet
+abbrev eight : List ℕ
+eight = 1 ∷ 2 ∷ 3 ∷ 4 ∷ 5 ∷ 6 ∷ 7 ∷ 8 ∷ []
+
+pub shown-once : Shown eight (eight ++ eight) 0x01234567 3 0
+unfolding isKey prepared isService isDirection
+shown-once = shown eight 0x01234567 3 0 refl refl refl (7 ∷ []) (lit≤ tt) (lit≤ tt) (eight ++ eight) refl refl

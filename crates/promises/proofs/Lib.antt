@@ -11,3 +11,4 @@ pub mod Promise2
 pub mod Promise3
 pub mod Receiving
 pub mod Sending
+pub mod ShortKeys

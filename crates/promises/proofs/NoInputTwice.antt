@@ -12,15 +12,14 @@ use Rattle.refusals.specs.Call.{Answered}
 use Rattle.refusals.proofs.Tests.{by-test}
 use Rattle.octets.specs.Xor.{xored}
 use Rattle.octets.proofs.Xored.{xored-shared}
-use Rattle.keystreams.specs.Key.{isKey}
+use Rattle.keystreams.specs.Key.{isKey, prepared}
 use Rattle.keystreams.specs.Gea4.{gea4Output}
-use Rattle.keystreams.proofs.Laws.{gea4-prepared}
 use Rattle.numbering.specs.Numbering.{end}
 use Rattle.frames.specs.Frame.{payloadOf}
 use Rattle.link.specs.declared.Link.{Link}
 use Rattle.link.specs.Input.{sx, inputOf}
 use Rattle.link.specs.Link.{isService, isDirection, linkCanArise, linkOf, ciphered, frameAt}
-use Rattle.link.proofs.Links.{service-most, link-says, opened-key, opened-link}
+use Rattle.link.proofs.Links.{service-most, link-says, opened-link}
 use Rattle.link.proofs.Inputs.{input-tells, two-meets-three}
 use Rattle.link.proofs.Frames.{payload-of-frame-at}
 use Rattle.sender.specs.declared.Sender.{Sender}
@@ -28,7 +27,7 @@ use Rattle.sender.specs.Sender.{newSender, openSenderCall}
 use Rattle.sender.proofs.Laws.{opened-sender, seal-done}
 use Rattle.promises.specs.Ends.{SentFrame, IsOneOf, here, there, benchSending}
 use Rattle.promises.specs.Promise3.{Rising, SendersHalf}
-use Rattle.promises.specs.NoInputTwice.{DifferentInputs, SealedSince, not-opened, opened, BenchSenders, SealedFrame, place, SameCall, inputUsed, AllHaveSealed, NoInputTwice, WhereItEnds}
+use Rattle.promises.specs.NoInputTwice.{DifferentInputs, SealedSince, not-opened, opened, OpenedUnder, BenchSenders, SealedFrame, place, SameCall, inputUsed, AllHaveSealed, NoInputTwice, WhereItEnds}
 use Rattle.promises.proofs.Frames.{each-one, above-one}
 use Rattle.promises.proofs.Sending.{senders-half}
 use Rattle.promises.proofs.BenchLaws.{bench-sending}
@@ -51,29 +50,34 @@ told-by-place rising here (there later) same = absurd (omega (arith, above-one (
 told-by-place rising (there later) here same = absurd (omega (arith, above-one (rising .0) later, same))
 told-by-place rising (there first) (there second) same = ap suc (told-by-place (rising .1) first second same)
 
-module _ (key : List ℕ) (iov direction : ℕ) where
+module _ (prepared-key : List ℕ) (iov direction : ℕ) where
+  -- the link of a service
+  abbrev link-of : ℕ → Link
+  link-of sapi = record { key = prepared-key; iov = iov; sapi = sapi; direction = direction }
+
   -- what is known of a service of which a frame was sealed
   record Known (sapi : ℕ) (frames : List SentFrame) : Type 0 where
-    is-key : isKey key ≡ true
-    can-arise : linkCanArise (linkOf key iov sapi direction) ≡ true
+    can-arise : linkCanArise (link-of sapi) ≡ true
     is-service : isService sapi ≡ true
-    half : SendersHalf frameAt (linkOf key iov sapi direction) frames
+    half : SendersHalf frameAt (link-of sapi) frames
 
-  known : {sapi : ℕ} {frame : SentFrame} {frames : List SentFrame} → SealedSince benchSending (λ sender. Answered (openSenderCall key iov sapi direction) 0 [] sender) frames
+  known : {sapi : ℕ} {frame : SentFrame} {frames : List SentFrame} → SealedSince benchSending (OpenedUnder prepared-key iov direction sapi) frames
       → IsOneOf frame frames → Known sapi frames
   unfolding newSender linkOf
   known {sapi} not-opened one = each-one (λ frame. Known sapi []) tt one
   known {sapi} {frames = frames} (opened is sends) one =
-      let none = sym (is .refusal-is) in
-      let can-arise = opened-link key iov sapi direction none in
+      let same : linkOf (is .key) iov sapi direction ≡ link-of sapi = λ i. record { key = is .yields i; iov = iov; sapi = sapi; direction = direction } in
+      let can-arise : linkCanArise (link-of sapi) ≡ true = ap linkCanArise (sym same) ∙ opened-link (is .key) iov sapi direction (sym (is .sender-opened .refusal-is)) in
       record {
-        is-key = opened-key key iov sapi direction none;
         can-arise = can-arise;
-        is-service = link-says (linkOf key iov sapi direction) can-arise .0;
-        half = subst (λ (link : Link). SendersHalf frameAt link frames) (ap (λ (s : Sender). s .link) (opened-sender key iov sapi direction is)) (senders-half frameAt benchSending bench-sending sends);
+        is-service = link-says (link-of sapi) can-arise .0;
+        half =
+            subst (λ (link : Link). SendersHalf frameAt link frames)
+            (ap (λ (s : Sender). s .link) (opened-sender (is .key) iov sapi direction (is .sender-opened)) ∙ same)
+            (senders-half frameAt benchSending bench-sending sends);
       }
 
-  module _ (senders : BenchSenders key iov direction) where
+  module _ (senders : BenchSenders prepared-key iov direction) where
     known-of : (one : SealedFrame (senders .frames)) → Known (one .sapi) (senders .frames (one .sapi))
     known-of one = known (senders .sealed (one .sapi)) (one .one)
 
@@ -91,21 +95,18 @@ module _ (key : List ℕ) (iov direction : ℕ) where
         )
 
     used : (one : SealedFrame (senders .frames))
-        → payloadOf (one .frame .octets) ≡ xored (one .frame .payload) (gea4Output key (inputUsed iov one) direction (length (one .frame .payload)))
-    unfolding ciphered linkOf
+        → payloadOf (one .frame .octets) ≡ xored (one .frame .payload) (gea4Output prepared-key (inputUsed iov one) direction (length (one .frame .payload)))
+    unfolding ciphered
     used one =
-        let its = known-of one in
-        let payload = one .frame .payload in
-        ap payloadOf (its .half .each-is (one .frame) (one .one) .octets-are)
-        ∙ payload-of-frame-at (linkOf key iov (one .sapi) direction) (one .frame .number) (its .can-arise) payload
-        ∙ ap (xored payload) (gea4-prepared key (inputUsed iov one) direction (length payload) (its .is-key))
+        ap payloadOf (known-of one .half .each-is (one .frame) (one .one) .octets-are)
+        ∙ payload-of-frame-at (link-of (one .sapi)) (one .frame .number) (known-of one .can-arise) (one .frame .payload)
 
 -- ---- senders that have sealed as much as one likes, each the payload of one octet
 
 module _ (key : List ℕ) (iov direction count : ℕ) (valid : isKey key ≡ true) (way : isDirection direction ≡ true) (most : count ≤ 2 ^ 27) where
   record OfService (sapi : ℕ) : Type 0 where
     frames : List SentFrame
-    sealed : SealedSince benchSending (λ sender. Answered (openSenderCall key iov sapi direction) 0 [] sender) frames
+    sealed : SealedSince benchSending (OpenedUnder (prepared key) iov direction sapi) frames
     has : isService sapi ≡ true → length frames ≡ count
 
   of-service : (sapi : ℕ) → OfService sapi
@@ -115,13 +116,13 @@ module _ (key : List ℕ) (iov direction count : ℕ) (valid : isKey key ≡ tru
       (λ service. record {
         frames = sent-from key iov sapi direction valid service way (7 ∷ []) (lit≤ tt) (lit≤ tt) 0 count;
         sealed =
-            opened (sender-opens key iov sapi direction valid service way (7 ∷ []) (lit≤ tt) (lit≤ tt))
+            opened (record { key = key; yields = refl; sender-opened = sender-opens key iov sapi direction valid service way (7 ∷ []) (lit≤ tt) (lit≤ tt) })
             (sends-from key iov sapi direction valid service way (7 ∷ []) (lit≤ tt) (lit≤ tt) 0 count (omega (arith, most)));
         has = λ exists. length-sent key iov sapi direction valid service way (7 ∷ []) (lit≤ tt) (lit≤ tt) 0 count;
       })
       (λ none. record { frames = []; sealed = not-opened; has = λ exists. absurd (true≢false (sym exists ∙ none)) })
 
-  all-have-sealed : AllHaveSealed key iov direction count
+  all-have-sealed : AllHaveSealed (prepared key) iov direction count
   all-have-sealed = record {
     senders = record { frames = λ sapi. of-service sapi .frames; sealed = λ sapi. of-service sapi .sealed };
     each-has = λ sapi. of-service sapi .has;
@@ -130,7 +131,7 @@ module _ (key : List ℕ) (iov direction count : ℕ) (valid : isKey key ≡ tru
 pub no-input-twice : NoInputTwice
 no-input-twice = record {
   formula = different-inputs;
-  sealed = λ key iov direction senders one other two-calls same. two-calls (same-call key iov direction senders one other same);
+  sealed = λ prepared-key iov direction senders one other two-calls same. two-calls (same-call prepared-key iov direction senders one other same);
   used = used;
   some = all-have-sealed;
 }
@@ -138,18 +139,18 @@ no-input-twice = record {
 -- ---- where it ends
 
 -- two frames that share an INPUT tell the xor of their payloads
-telling : (key : List ℕ) (iov other-iov direction : ℕ) (senders : BenchSenders key iov direction) (others : BenchSenders key other-iov direction)
+telling : (prepared-key : List ℕ) (iov other-iov direction : ℕ) (senders : BenchSenders prepared-key iov direction) (others : BenchSenders prepared-key other-iov direction)
     (one : SealedFrame (senders .frames)) (other : SealedFrame (others .frames)) → inputUsed iov one ≡ inputUsed other-iov other → length (one .frame .payload) ≡ length (other .frame .payload)
     → xored (payloadOf (one .frame .octets)) (payloadOf (other .frame .octets)) ≡ xored (one .frame .payload) (other .frame .payload)
-telling key iov other-iov direction senders others one other same long =
-    let stream : List ℕ = gea4Output key (inputUsed other-iov other) direction (length (other .frame .payload)) in
+telling prepared-key iov other-iov direction senders others one other same long =
+    let stream : List ℕ = gea4Output prepared-key (inputUsed other-iov other) direction (length (other .frame .payload)) in
     ap₂ xored
-    (used key iov direction senders one ∙ ap₂ (λ (input m : ℕ). xored (one .frame .payload) (gea4Output key input direction m)) same long)
-    (used key other-iov direction others other)
+    (used prepared-key iov direction senders one ∙ ap₂ (λ (input m : ℕ). xored (one .frame .payload) (gea4Output prepared-key input direction m)) same long)
+    (used prepared-key other-iov direction others other)
     ∙ xored-shared (one .frame .payload) (other .frame .payload) stream (omega (arith, long))
 
 pub where-it-ends : WhereItEnds
-unfolding isService inputOf sx
+unfolding isService inputOf sx newSender linkOf
 where-it-ends = record {
   at-the-end = record { one-assigned = refl; other-assigned = refl; same = refl };
   under-every-offset = λ iov.
@@ -158,7 +159,10 @@ where-it-ends = record {
       (λ same. inr (record { one-assigned = refl; other-assigned = refl; same = same }))
       (two-meets-three iov);
   two-offsets = record { one-assigned = refl; other-assigned = refl; same = refl };
-  opened-twice = λ key iov sapi direction one other. opened-sender key iov sapi direction one ∙ sym (opened-sender key iov sapi direction other);
+  opened-twice = λ one-key other-key iov sapi direction same one other.
+      opened-sender one-key iov sapi direction one
+      ∙ ap (λ (key : List ℕ). newSender (record { key = key; iov = iov; sapi = sapi; direction = direction })) same
+      ∙ sym (opened-sender other-key iov sapi direction other);
   state-twice = λ sender one-payload other-payload one-before other-before one other.
       let first = seal-done sender one-payload one-before one in
       let second = seal-done sender other-payload other-before other in

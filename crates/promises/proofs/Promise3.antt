@@ -42,16 +42,17 @@ module _ (w : ℕ) (wide : 0 < w) (narrow : w ≤ 512) where
 
   -- ends that were opened alike are on one link
   same-link : {sender : Sender} {receiver : Receiver} → NewlyOpenedEnds sender receiver → sender .link ≡ receiver .link
-  unfolding newSender newReceiver
+  unfolding newSender newReceiver linkOf
   same-link alike =
-      ap (λ (s : Sender). s .link) (opened-sender (alike .key) (alike .iov) (alike .sapi) (alike .direction) (alike .sender-opened))
-      ∙ sym (ap (λ (r : Receiver). r .link) (opened-receiver (alike .key) (alike .iov) (alike .sapi) (alike .direction) (alike .receiver-opened)))
+      ap (λ (s : Sender). s .link) (opened-sender (alike .sender-key) (alike .iov) (alike .sapi) (alike .direction) (alike .sender-opened))
+      ∙ (λ i. record { key = alike .same-key i; iov = alike .iov; sapi = alike .sapi; direction = alike .direction })
+      ∙ sym (ap (λ (r : Receiver). r .link) (opened-receiver (alike .receiver-key) (alike .iov) (alike .sapi) (alike .direction) (alike .receiver-opened)))
 
   pub promise-3-at : Promise3 w (benchEnds w)
   promise-3-at = record {
     kept = λ alike sends events inside.
         newly-opened
-        (record { key = alike .key; iov = alike .iov; sapi = alike .sapi; direction = alike .direction; receiver-opened = alike .receiver-opened })
+        (record { key = alike .receiver-key; iov = alike .iov; sapi = alike .sapi; direction = alike .direction; receiver-opened = alike .receiver-opened })
         (λ frame one. subst (λ (l : Link). IsFrame frameAt l frame) (same-link alike) (senders-half frameAt benchSending bench-sending sends .each-is frame one)) events inside;
     told-by-number = λ sends one other same. told-by-number (senders-half frameAt benchSending bench-sending sends .rising) one other same;
     senders-half = λ sends. senders-half frameAt benchSending bench-sending sends;

@@ -3,12 +3,12 @@
 use Prim.Native.Nat.{ℕ, _+_, _*_, _≤_, _<_}
 use mathlib.Core.Path.{_≡_}
 use mathlib.Core.List.{List, []}
-use lib.ListN.{drop}
+use lib.ListN.{length, drop}
 use Rattle.octets.specs.Bits.{bitOf}
 use Rattle.kgcore.specs.declared.Inputs.{Inputs}
 use Rattle.refusals.specs.Call.{Answered, Outputs}
 use Rattle.kgcore.specs.Kgcore.{keyBit, kgcoreCall}
-use Rattle.keystreams.specs.Key.{prepared}
+use Rattle.keystreams.specs.Key.{prepared, prepareKeyCall}
 use Rattle.keystreams.specs.A5.{gsmKind, ecsdKind, a5Inputs, a5Call}
 use Rattle.keystreams.specs.Gea4.{gea4Inputs, gea4Call}
 
@@ -19,7 +19,15 @@ pub record HoldsBits (bit : ℕ → ℕ) (start count octets : ℕ) (before afte
   pub spare : (i : ℕ) → count ≤ i → i < 8 * octets → bitOf after i ≡ 0
   pub past : drop octets after ≡ drop octets before
 
+-- a key Kc as document 004 fills it up to CK, of 128 bits: CK[i] is Kc[i] up to Kc's end, and CK[KLEN + i] is Kc[i] from there on
+pub record FilledUp (kc ck : List ℕ) : Type 0 where
+  pub size : length ck ≡ 16
+  pub own : (i : ℕ) → i < 8 * length kc → bitOf ck i ≡ bitOf kc i
+  pub anew : (i : ℕ) → 8 * length kc + i < 128 → bitOf ck (8 * length kc + i) ≡ bitOf kc i
+
 pub record BitForBit : Type 0 where
+  -- what the preparation hands out for a key is `prepared key`, under which the three keystreams below run KGCORE, and it is CK
+  pub preparation : (key : List ℕ) {octets : List ℕ} → Answered (prepareKeyCall key) 0 [] octets → (octets ≡ prepared key) × FilledUp key octets
   -- KGCORE: the first CL bits, in CL / 8 octets, rounded up
   pub kgcore : (inputs : Inputs) (key : List ℕ) (cl octets : ℕ) (before : List ℕ) {output : List ℕ} → Answered (kgcoreCall inputs key cl before) 0 [] output
       → cl ≤ 8 * octets → 8 * octets < cl + 8

@@ -10,12 +10,21 @@ use lib.ListN.{length, take, drop}
 use Rattle.refusals.specs.Refusal.{first}
 use Rattle.refusals.specs.Call.{Answered}
 use Rattle.numbering.specs.Numbering.{end, isAccepted, Candidate}
+use Rattle.keystreams.specs.Key.{prepared}
 use Rattle.frames.specs.Frame.{AreOctets, headerOf, payloadOf, lookOrder, looked}
+use Rattle.link.specs.declared.Link.{Link}
 use Rattle.link.specs.Link.{frameAt}
 use Rattle.sender.specs.declared.Sender.{Sender}
-use Rattle.sender.specs.Sender.{sealCall}
+use Rattle.sender.specs.Sender.{openSenderCall, sealCall}
 use Rattle.receiver.specs.declared.Receiver.{Receiver}
-use Rattle.receiver.specs.Receiver.{Opening, receiverCanArise, isOfLink, openCall}
+use Rattle.receiver.specs.Receiver.{Opening, receiverCanArise, isOfLink, openReceiverCall, openCall}
+
+-- the link of an end that was opened: it holds the prepared key, and the rest as it was given
+pub record HoldsLink (key : List ℕ) (iov sapi direction : ℕ) (link : Link) : Type 0 where
+  pub key-is : link .key ≡ prepared key
+  pub iov-is : link .iov ≡ iov
+  pub sapi-is : link .sapi ≡ sapi
+  pub direction-is : link .direction ≡ direction
 
 -- a payload that was sealed: under the next number, the whole frame of that number stands at the front of the output, p + 6 octets; the octets past
 -- it are kept; and the next number is one more
@@ -68,6 +77,11 @@ pub record OpenRefusals (w : ℕ) (receiver : Receiver) (octets before : List �
   pub given : (refusal ≡ 11) ⊎ (refusal ≡ 4) → Candidate w (receiver .numbering .next) (headerOf octets .sent) number
 
 pub record ByTheRule (w : ℕ) : Type 0 where
+  -- the link whose frames are sealed and opened below is the one that the end was opened with
+  pub sender-opened : (key : List ℕ) (iov sapi direction : ℕ) {sender : Sender} → Answered (openSenderCall key iov sapi direction) 0 [] sender
+      → HoldsLink key iov sapi direction (sender .link)
+  pub receiver-opened : (key : List ℕ) (iov sapi direction : ℕ) {receiver : Receiver} → Answered (openReceiverCall key iov sapi direction) 0 [] receiver
+      → HoldsLink key iov sapi direction (receiver .link)
   pub sealed : (sender : Sender) (payload before : List ℕ) {number size : ℕ} {later : Sender} {after : List ℕ}
       → Answered (sealCall sender payload before) 0 (number ∷ size ∷ []) (record { sender = later; output = after })
       → SealedByTheRule sender payload before number size later after

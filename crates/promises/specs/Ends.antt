@@ -8,6 +8,7 @@ use mathlib.Core.List.{List, [], _∷_}
 use lib.Dec.{eqb}
 use lib.ListN.{length, take}
 use Rattle.refusals.specs.Call.{Answered}
+use Rattle.keystreams.specs.Key.{prepared}
 use Rattle.numbering.specs.Numbering.{end, InWindow}
 use Rattle.link.specs.declared.Link.{Link}
 use Rattle.link.specs.Link.{frameAt}
@@ -132,14 +133,17 @@ AllInWindow w (refused call not-done opens rest) = AllInWindow w rest
 
 -- ---- the bench frame, its sender and its receiver, whose window has the width w
 
--- a sender and a receiver newly opened with the same key, offset, service number and direction
+-- a sender and a receiver newly opened with the same prepared key, offset, service number and direction. Each is handed a key of its own, of 8 octets or
+-- of 16; it is the same key where both yield the same 16 octets
 pub record NewlyOpenedEnds (sender : Sender) (receiver : Receiver) : Type 0 where
-  pub key : List ℕ
+  pub sender-key : List ℕ
+  pub receiver-key : List ℕ
   pub iov : ℕ
   pub sapi : ℕ
   pub direction : ℕ
-  pub sender-opened : Answered (openSenderCall key iov sapi direction) 0 [] sender
-  pub receiver-opened : Answered (openReceiverCall key iov sapi direction) 0 [] receiver
+  pub same-key : prepared sender-key ≡ prepared receiver-key
+  pub sender-opened : Answered (openSenderCall sender-key iov sapi direction) 0 [] sender
+  pub receiver-opened : Answered (openReceiverCall receiver-key iov sapi direction) 0 [] receiver
 
 -- a newly opened receiver
 pub record NewlyOpenedReceiver (receiver : Receiver) : Type 0 where

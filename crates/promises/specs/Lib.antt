@@ -7,3 +7,4 @@ pub mod NoInputTwice
 pub mod Promise1
 pub mod Promise2
 pub mod Promise3
+pub mod ShortKeys

@@ -1,5 +1,5 @@
--- No INPUT used twice (document 02, item 11): of the formula, and of whatever senders of one key, offset and direction seal. Then where it ends: what
--- meets at 2^27, under two offsets, and when a sender is opened twice. Assumes nothing.
+-- No INPUT used twice (document 02, item 11): of the formula, and of whatever senders of one prepared key, offset and direction seal. Then where it ends:
+-- what meets at 2^27, under two offsets, and when a sender is opened twice. Assumes nothing.
 use Prim.Native.Nat.{ℕ, suc, _^_, _≤_, _<_}
 use mathlib.Core.Path.{_≡_}
 use mathlib.Core.Logic.{_⊎_}
@@ -8,7 +8,7 @@ use mathlib.Core.List.{List, [], _∷_}
 use lib.ListN.{length}
 use Rattle.refusals.specs.Call.{Answered}
 use Rattle.octets.specs.Xor.{xored}
-use Rattle.keystreams.specs.Key.{isKey}
+use Rattle.keystreams.specs.Key.{isKey, prepared}
 use Rattle.keystreams.specs.Gea4.{gea4Output}
 use Rattle.frames.specs.Frame.{payloadOf}
 use Rattle.link.specs.Input.{inputOf}
@@ -40,9 +40,16 @@ pub record Senders (sending : Sending) (Opened : ℕ → sending .State → Type
   pub frames : ℕ → List SentFrame
   pub sealed : (sapi : ℕ) → SealedSince sending (Opened sapi) (frames sapi)
 
--- the senders of the bench, newly opened with one key, offset and direction
+-- a sender newly opened under a prepared key: it was handed a key, of 8 octets or of 16, that yields these 16 octets. So a key of 8 octets and its
+-- doubled form are one key here
+pub record OpenedUnder (prepared-key : List ℕ) (iov direction sapi : ℕ) (sender : Sender) : Type 0 where
+  pub key : List ℕ
+  pub yields : prepared key ≡ prepared-key
+  pub sender-opened : Answered (openSenderCall key iov sapi direction) 0 [] sender
+
+-- the senders of the bench, newly opened under one prepared key, with one offset and direction
 abbrev pub BenchSenders : List ℕ → ℕ → ℕ → Type 0
-BenchSenders key iov direction = Senders benchSending (λ sapi sender. Answered (openSenderCall key iov sapi direction) 0 [] sender)
+BenchSenders prepared-key iov direction = Senders benchSending (OpenedUnder prepared-key iov direction)
 
 -- a frame that one of the senders sealed: its service, and which of that sender's frames it is
 pub record SealedFrame (frames : ℕ → List SentFrame) : Type 0 where
@@ -64,21 +71,22 @@ abbrev pub inputUsed : {frames : ℕ → List SentFrame} → ℕ → SealedFrame
 inputUsed iov sealed = inputOf iov (sealed .sapi) (sealed .frame .number)
 
 -- senders of all assigned services, each of which has sealed so many frames
-pub record AllHaveSealed (key : List ℕ) (iov direction count : ℕ) : Type 0 where
-  pub senders : BenchSenders key iov direction
+pub record AllHaveSealed (prepared-key : List ℕ) (iov direction count : ℕ) : Type 0 where
+  pub senders : BenchSenders prepared-key iov direction
   pub each-has : (sapi : ℕ) → isService sapi ≡ true → length (senders .frames sapi) ≡ count
 
 pub record NoInputTwice : Type 0 where
   pub formula : DifferentInputs
   -- two sealed frames that are not of the same seal call have different INPUT
-  pub sealed : (key : List ℕ) (iov direction : ℕ) (senders : BenchSenders key iov direction) (one other : SealedFrame (senders .frames))
+  pub sealed : (prepared-key : List ℕ) (iov direction : ℕ) (senders : BenchSenders prepared-key iov direction) (one other : SealedFrame (senders .frames))
       → (SameCall one other → ⊥)
       → inputUsed iov one ≡ inputUsed iov other → ⊥
   -- and this is the INPUT that was used: what stands after a frame's header is its payload xor the GEA4 octets of this INPUT
-  pub used : (key : List ℕ) (iov direction : ℕ) (senders : BenchSenders key iov direction) (one : SealedFrame (senders .frames))
-      → payloadOf (one .frame .octets) ≡ xored (one .frame .payload) (gea4Output key (inputUsed iov one) direction (length (one .frame .payload)))
+  pub used : (prepared-key : List ℕ) (iov direction : ℕ) (senders : BenchSenders prepared-key iov direction) (one : SealedFrame (senders .frames))
+      → payloadOf (one .frame .octets) ≡ xored (one .frame .payload) (gea4Output prepared-key (inputUsed iov one) direction (length (one .frame .payload)))
   -- there are such senders, of every key, offset and direction, with as many frames as one likes, up to all 2^27 of each service
-  pub some : (key : List ℕ) (iov direction count : ℕ) → isKey key ≡ true → isDirection direction ≡ true → count ≤ 2 ^ 27 → AllHaveSealed key iov direction count
+  pub some : (key : List ℕ) (iov direction count : ℕ) → isKey key ≡ true → isDirection direction ≡ true → count ≤ 2 ^ 27
+      → AllHaveSealed (prepared key) iov direction count
 
 -- ---- where it ends
 
@@ -95,19 +103,20 @@ pub record WhereItEnds : Type 0 where
   pub under-every-offset : (iov : ℕ) → Meet iov 2 (2 ^ 27) iov 3 0 ⊎ Meet iov 3 (2 ^ 27) iov 2 0
   -- two offsets under one key: number 1 under offset 0 meets number 0 under offset 1
   pub two-offsets : Meet 0 3 1 1 3 0
-  -- a sender opened twice: the same call gives the same state,
-  pub opened-twice : (key : List ℕ) (iov sapi direction : ℕ) {one other : Sender}
-      → Answered (openSenderCall key iov sapi direction) 0 [] one
-      → Answered (openSenderCall key iov sapi direction) 0 [] other
+  -- a sender opened twice, with one key or with two that yield the same, has the same state,
+  pub opened-twice : (one-key other-key : List ℕ) (iov sapi direction : ℕ) {one other : Sender}
+      → prepared one-key ≡ prepared other-key
+      → Answered (openSenderCall one-key iov sapi direction) 0 [] one
+      → Answered (openSenderCall other-key iov sapi direction) 0 [] other
       → one ≡ other
   -- and a state that two seal calls are given seals two frames of one number, so of one INPUT, and leaves one state, so that what follows repeats too
   pub state-twice : (sender : Sender) (one-payload other-payload one-before other-before : List ℕ) {m n one-size other-size : ℕ} {one-later other-later : Sender} {one-after other-after : List ℕ}
       → Answered (sealCall sender one-payload one-before) 0 (m ∷ one-size ∷ []) (record { sender = one-later; output = one-after })
       → Answered (sealCall sender other-payload other-before) 0 (n ∷ other-size ∷ []) (record { sender = other-later; output = other-after })
       → (m ≡ n) × (one-later ≡ other-later)
-  -- what a repeated INPUT tells everybody who listens: of two sealed frames of one key and direction that share it, with payloads of one length, the xor
-  -- of what is on the air is the xor of the payloads
-  pub tells : (key : List ℕ) (iov other-iov direction : ℕ) (senders : BenchSenders key iov direction) (others : BenchSenders key other-iov direction)
+  -- what a repeated INPUT tells everybody who listens: of two sealed frames of one prepared key and direction that share it, with payloads of one length,
+  -- the xor of what is on the air is the xor of the payloads
+  pub tells : (prepared-key : List ℕ) (iov other-iov direction : ℕ) (senders : BenchSenders prepared-key iov direction) (others : BenchSenders prepared-key other-iov direction)
       (one : SealedFrame (senders .frames)) (other : SealedFrame (others .frames))
       → inputUsed iov one ≡ inputUsed other-iov other
       → length (one .frame .payload) ≡ length (other .frame .payload)

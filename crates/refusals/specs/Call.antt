@@ -123,6 +123,6 @@ Always P (function back) = Unit {0}
 Always P (given {A} each) = (a : A) → Always P (each a)
 
 -- what holds of every one of these
-abbrev pub All : (PublicCall → Type 0) → List PublicCall → Type 0
+abbrev pub All : {A : Type 1} → (A → Type 0) → List A → Type 0
 All P [] = Unit {0}
 All P (one ∷ rest) = P one × All P rest

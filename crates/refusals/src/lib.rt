@@ -1,6 +1,6 @@
 // The refusal numbers of document 01, named once. A call answers 0 where nothing is refused.
 
-// The key is not 16 octets.
+// The key is neither 8 octets nor 16; of KASUMI and KGCORE, not 16.
 pub const KEY: u8 = 1;
 
 // An input is above its range, or a service number is not assigned.

@@ -3,7 +3,7 @@
 
 use super::form::{handed_out, lent, number, octets_field, shown};
 use super::Subject;
-use crate::cases::{published, spoiled, KEY, SIZES};
+use crate::cases::{key_of, published, spoiled, KEY, SIZES};
 use crate::product::ciphers::{self, Numbers};
 use crate::random::Random;
 use crate::vectors;
@@ -168,11 +168,12 @@ fn refusals() -> Vec<String> {
     lines
 }
 
-/// Keys of many lengths; a key of 8 octets is not doubled here but refused.
+/// Every length of a key from 0 to 33 octets, and the longest that a line holds. No two octets that
+/// stand near each other are alike, so that it shows which stands where in the 16.
 fn keys() -> Vec<String> {
     let mut lines = Vec::new();
-    for octets in [0, 1, 8, 15, 16, 17, 32, 2048] {
-        let key = if octets == 0 { "-".to_string() } else { "5A".repeat(octets) };
+    for octets in (0..=33).chain([2048]) {
+        let key = shown(&key_of(octets));
         lines.push(format!("prepare_key {key}"));
         lines.push(format!("kasumi {key} 0x0123456789ABCDEF"));
         lines.push(format!("kgcore {key} 1 2 3 0 4 64 8"));
@@ -244,9 +245,10 @@ fn random_lines() -> Vec<String> {
     lines
 }
 
-/// Mostly a call that succeeds; a range, a room or a key is now and then just beyond.
+/// Mostly a call that succeeds; a range, a room or a key is now and then just beyond. A key of 8
+/// octets is one but for KASUMI and KGCORE.
 fn random_line(random: &mut Random) -> String {
-    let key_octets = random.one_of(&[16, 16, 16, 16, 16, 16, 16, 15]);
+    let key_octets = random.one_of(&[16, 16, 16, 16, 8, 8, 8, 15]);
     let key = random.digits(key_octets);
     let word = random.number() as u32;
     let bit = random.one_of(&[0, 0, 0, 1, 1, 1, 1, 2]);

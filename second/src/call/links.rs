@@ -3,7 +3,7 @@
 use super::ends::{link, opened};
 use super::form::{handed_out, lent, number, octets_field, shown};
 use super::Subject;
-use crate::cases::KEY;
+use crate::cases::{key_of, KEY};
 use crate::link::ends::cipher;
 use crate::link::services::assigned;
 use crate::link::states::open_link;
@@ -36,7 +36,7 @@ fn answer(fields: &[&[u8]]) -> Option<String> {
     }
 }
 
-/// Every service number with directions near their end, and keys of wrong lengths.
+/// Every service number with directions near their end, and keys of 0 to 33 octets.
 fn links() -> Vec<String> {
     let mut lines = Vec::new();
     for sapi in 0..=u8::MAX {
@@ -45,8 +45,8 @@ fn links() -> Vec<String> {
             lines.push(format!("link_can_arise {KEY} 0x1234567 {sapi} {direction}"));
         }
     }
-    for octets in [0, 1, 8, 15, 16, 17, 32] {
-        let key = shown(&vec![7; octets]);
+    for octets in 0..=33 {
+        let key = shown(&key_of(octets));
         lines.extend([3, 4].map(|sapi| format!("open_link {key} 0 {sapi} 1")));
     }
     lines

@@ -69,6 +69,7 @@ fn lines() -> Vec<String> {
 
 #[cfg(test)]
 mod tests {
+    use super::form::octets_field;
     use super::*;
     use std::collections::BTreeSet;
 
@@ -90,6 +91,28 @@ mod tests {
                 let met = answers.iter().map(String::as_str).filter(|&answer| answer != "?");
                 assert_eq!(met.collect::<BTreeSet<_>>(), refusals.split(' ').collect(), "{form}");
             }
+        }
+    }
+
+    #[test]
+    fn keys_of_0_to_33_octets_go_through_every_call_that_takes_one_and_8_and_16_pass() {
+        let lines = lines();
+        let takes_a_key = |form: &&&str| form.split(' ').nth(1) == Some("KEY");
+        let forms: Vec<_> = SUBJECTS.iter().flat_map(|subject| subject.forms).collect();
+        let forms: Vec<_> = forms.iter().filter(|form| takes_a_key(form)).collect();
+        assert_eq!(forms.len(), 9);
+        for form in forms {
+            let name = form.split(' ').next().unwrap();
+            let lengths: &[usize] = if name.starts_with('k') { &[16] } else { &[8, 16] };
+            let mut tried = BTreeSet::new();
+            for line in lines.iter().filter(|line| line.split(' ').next() == Some(name)) {
+                let Some(answer) = answer(line.as_bytes()) else { continue };
+                let key = octets_field(line.split(' ').nth(1).unwrap().as_bytes()).unwrap();
+                let refused = answer.split(' ').next() == Some("1");
+                assert_eq!(refused, !lengths.contains(&key.len()), "{line}");
+                tried.insert(key.len());
+            }
+            assert!(tried.is_superset(&(0..=33).collect()), "{form}");
         }
     }
 

@@ -12,6 +12,11 @@ use crate::vectors::{self, Published};
 /// The key of cases in which any key would do.
 pub const KEY: &str = "000102030405060708090A0B0C0D0E0F";
 
+/// A key of so many octets, no two of any 16 in a row alike.
+pub fn key_of(octets: usize) -> Vec<u8> {
+    (0..octets).map(|place| (0x3B + 0x1D * place) as u8).collect()
+}
+
 /// Sizes around an octet and around KASUMI's block of 64 bits or 8 octets.
 pub const SIZES: [usize; 10] = [1, 7, 8, 9, 63, 64, 65, 127, 128, 129];
 

@@ -13,7 +13,8 @@ pub fn input() -> String {
     ended(parts.concat())
 }
 
-/// The calls of the GEA4 sets in the order of this program's fields.
+/// The calls of the GEA3 and GEA4 sets in the order of this program's fields. A key of 8 octets is
+/// not of its form.
 fn published_vectors() -> Vec<String> {
     let line = |call: &str| {
         let fields: Vec<&str> = call.split(' ').collect();

@@ -1,14 +1,15 @@
 //! The states of a sender and of a receiver, and how an end is opened.
-//! Follows document 01, "The link" and "Refusal numbers", and document 02, item 5.
+//! Follows document 01, "The link" and "Refusal numbers", and document 02, items 1 and 5.
 
 use crate::lines::hex;
 use crate::link::frame::LAST_DIRECTION;
 use crate::link::numbering::{History, LAST_NUMBER};
 use crate::link::services::is_assigned;
-use crate::refusals::{bad_key, first, KEY, NONE, RANGE};
+use crate::product::ciphers::prepare_key;
+use crate::refusals::{first, KEY, NONE, RANGE};
 use std::fmt::{Display, Formatter, Result};
 
-/// What both ends of a link agree on.
+/// What both ends of a link agree on; the key is the prepared one.
 #[derive(Clone, Copy, Debug, PartialEq)]
 pub struct Link {
     pub key: [u8; 16],
@@ -45,11 +46,9 @@ pub fn open_receiver(key: &[u8], iov: u32, sapi: u8, direction: u8) -> (u8, Rece
 
 pub fn open_link(key: &[u8], iov: u32, sapi: u8, direction: u8) -> (u8, Link) {
     let out_of_range = !is_assigned(sapi) || direction > LAST_DIRECTION;
-    let refusal = first(&[(KEY, bad_key(key)), (RANGE, out_of_range)]);
-    let link = match <[u8; 16]>::try_from(key) {
-        Ok(key) if refusal == NONE => Link { key, iov, sapi, direction },
-        _ => NO_LINK,
-    };
+    let (key_refusal, key) = prepare_key(key);
+    let refusal = first(&[(KEY, key_refusal != NONE), (RANGE, out_of_range)]);
+    let link = if refusal == NONE { Link { key, iov, sapi, direction } } else { NO_LINK };
     (refusal, link)
 }
 

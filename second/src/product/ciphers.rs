@@ -1,8 +1,9 @@
 //! The product's ciphers and keystreams, and the key that they take: refusals in their order,
 //! results at the front of lent octets.
-//! Follows document 01, "KGCORE and the three keystreams" and "Refusal numbers".
+//! Follows document 01, "KGCORE and the three keystreams" and "Refusal numbers", and document 02,
+//! item 1.
 
-use crate::bits::{of_number, of_octets, to_number, Bits};
+use crate::bits::{of_number, of_octets, to_number, to_octets, Bits};
 use crate::kasumi;
 use crate::keystreams::{self, ECSD_BLOCK_BITS, GSM_BLOCK_BITS};
 use crate::kgcore::{self, Inputs};
@@ -26,8 +27,10 @@ pub struct Numbers {
 
 /// The 16 octets that a key yields, or zeros where it is refused.
 pub fn prepare_key(key: &[u8]) -> (u8, [u8; 16]) {
-    let refusal = first(&[(KEY, bad_key(key))]);
-    (refusal, key.try_into().unwrap_or_default())
+    match keystreams::ck(&of_octets(key)) {
+        Some(ck) => (NONE, to_octets(&ck).try_into().expect("CK has 128 bits")),
+        None => (KEY, [0; 16]),
+    }
 }
 
 pub fn kasumi(key: &[u8], block: u64) -> (u8, u64) {
@@ -77,13 +80,14 @@ fn a5(
     count: u32,
     lent: [&mut [u8]; 2],
 ) -> u8 {
+    let (key_refusal, key) = prepare_key(key);
     let refusal = first(&[
-        (KEY, bad_key(key)),
+        (KEY, key_refusal != NONE),
         (RANGE, count > LAST_COUNT),
         (ROOM, lent.iter().any(|buffer| short(buffer, block_bits as u64))),
     ]);
     if refusal == NONE {
-        let blocks = keystream(&of_octets(key), &of_number(count.into(), 22));
+        let blocks = keystream(&of_octets(&key), &of_number(count.into(), 22));
         for (block, buffer) in blocks.iter().zip(lent) {
             put(block, buffer);
         }
@@ -92,8 +96,9 @@ fn a5(
 }
 
 pub fn gea4(key: &[u8], input: u32, direction: u8, m: u32, output: &mut [u8]) -> u8 {
+    let (key_refusal, key) = prepare_key(key);
     let refusal = first(&[
-        (KEY, bad_key(key)),
+        (KEY, key_refusal != NONE),
         (RANGE, direction > 1),
         (SIZE, m == 0 || m > MOST_OCTETS),
         (ROOM, short(output, 8 * u64::from(m))),
@@ -101,7 +106,7 @@ pub fn gea4(key: &[u8], input: u32, direction: u8, m: u32, output: &mut [u8]) ->
     if refusal == NONE {
         let input = of_number(input.into(), 32);
         let direction = of_number(direction.into(), 1);
-        put(&keystreams::gea4(&of_octets(key), &input, &direction, m as usize), output);
+        put(&keystreams::gea4(&of_octets(&key), &input, &direction, m as usize), output);
     }
     refusal
 }
@@ -118,11 +123,24 @@ mod tests {
     }
 
     #[test]
-    fn a_key_of_16_octets_is_its_own_preparation() {
+    fn a_key_of_16_octets_yields_itself_and_one_of_8_itself_twice() {
         let key = std::array::from_fn(|place| place as u8);
         assert_eq!(prepare_key(&key), (NONE, key));
-        for octets in [0, 8, 15, 17, 32] {
+        let twice = [1, 2, 3, 4, 5, 6, 7, 8, 1, 2, 3, 4, 5, 6, 7, 8];
+        assert_eq!(prepare_key(&[1, 2, 3, 4, 5, 6, 7, 8]), (NONE, twice));
+        for octets in (0..40).filter(|octets| ![8, 16].contains(octets)) {
             assert_eq!(prepare_key(&vec![7; octets]), (KEY, [0; 16]));
+        }
+    }
+
+    #[test]
+    fn kasumi_and_kgcore_take_16_octets_alone() {
+        let numbers = Numbers { ca: 1, cb: 2, cc: 3, cd: 0, ce: 4, cl: 8 };
+        for octets in 0..40 {
+            let key = vec![7; octets];
+            let expected = if octets == 16 { NONE } else { KEY };
+            assert_eq!(kasumi(&key, 9).0, expected);
+            assert_eq!(kgcore(&key, &numbers, &mut [0]), expected);
         }
     }
 

@@ -1,9 +1,10 @@
 //! Ends opened, frames sealed and frames opened: sizes, rooms, numbers, services, damage.
 
 use super::{open_line, receiver_at, seal_line, sealed, sender_at, LINK};
+use crate::call::form::shown;
 use crate::call::headers::payload;
 use crate::call::numbers::{arising, n_of, FULL};
-use crate::cases::{KEY, SIZES};
+use crate::cases::{key_of, KEY, SIZES};
 use crate::link::frame::framed;
 use crate::link::services::assigned;
 use crate::link::states::{Link, Receiver, Sender};
@@ -22,11 +23,11 @@ pub fn lines() -> Vec<String> {
     parts.concat()
 }
 
-/// Keys of many lengths and numbers at their ends, for a sender and for a receiver.
+/// Keys of 0 to 33 octets and numbers at their ends, for a sender and for a receiver.
 fn openings() -> Vec<String> {
     let mut fields = Vec::new();
-    for octets in [0, 1, 8, 15, 16, 17, 32] {
-        let key = if octets == 0 { "-".to_string() } else { "5a".repeat(octets) };
+    for octets in 0..=33 {
+        let key = shown(&key_of(octets));
         for (sapi, direction) in [(11, 1), (4, 1), (11, 2), (16, 2)] {
             fields.push(format!("{key} 0xDEADBEEF {sapi} {direction}"));
         }

@@ -5,6 +5,7 @@ mod cases;
 mod causes;
 mod examples;
 mod inputs;
+mod keys;
 mod runs;
 mod services;
 
@@ -28,6 +29,7 @@ pub const SUBJECT: Subject = Subject {
             examples::lines(),
             services::lines(),
             inputs::lines(),
+            keys::lines(),
             cases::lines(),
             causes::lines(),
             runs::lines(),

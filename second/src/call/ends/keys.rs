@@ -1,0 +1,63 @@
+//! Document 02, item 1: an end opened with a key of 8 octets and one opened with that key doubled, each
+//! in turn the sender, in both directions. Both are opened and hold the same key, and a text goes over.
+
+use super::{open_line, seal_line, sealed};
+use crate::call::form::shown;
+use crate::cases::key_of;
+use crate::link::states::{open_receiver, open_sender};
+
+const IOV: u32 = 0x89AB_CDEF;
+const SAPI: u8 = 7;
+const TEXT: &[u8; 12] = b"an old phone";
+
+pub fn lines() -> Vec<String> {
+    let short = key_of(8);
+    let doubled = [short.as_slice(), &short].concat();
+    let between =
+        |direction| [over(&short, &doubled, direction), over(&doubled, &short, direction)].concat();
+    [0, 1].into_iter().flat_map(between).collect()
+}
+
+/// Two ends opened with these keys, and a text from the one to the other.
+fn over(sender_key: &[u8], receiver_key: &[u8], direction: u8) -> Vec<String> {
+    let (_, sender) = open_sender(sender_key, IOV, SAPI, direction);
+    let (_, receiver) = open_receiver(receiver_key, IOV, SAPI, direction);
+    let frame = sealed(sender, TEXT);
+    vec![
+        format!("open_sender {} {IOV} {SAPI} {direction}", shown(sender_key)),
+        format!("open_receiver {} {IOV} {SAPI} {direction}", shown(receiver_key)),
+        seal_line(sender, TEXT, 18),
+        open_line(receiver, &frame, 12),
+    ]
+}
+
+#[cfg(test)]
+mod tests {
+    use super::*;
+    use crate::call;
+    use crate::lines::hex;
+
+    /// The key, written twice by hand.
+    const PREPARED: &str = "3B587592AFCCE9063B587592AFCCE906";
+
+    #[test]
+    fn ends_of_a_key_and_of_the_key_doubled_understand_each_other() {
+        let lines = lines();
+        assert_eq!(lines.len(), 4 * 4);
+        for (place, both) in lines.chunks(4).enumerate() {
+            let lengths = [16, 32].map(|digits| {
+                let key = both[usize::from(digits == 32) ^ (place % 2)].split(' ').nth(1).unwrap();
+                key.len() == digits && PREPARED.starts_with(key)
+            });
+            assert_eq!(lengths, [true, true], "{both:?}");
+
+            let answers: Vec<String> =
+                both.iter().map(|line| call::answer(line.as_bytes()).unwrap()).collect();
+            let state = format!("{PREPARED} {IOV} {SAPI} {}", place / 2);
+            assert_eq!(answers[0], format!("0 {state} 0"));
+            assert_eq!(answers[1], format!("0 {state} 0 0"));
+            assert!(answers[2].starts_with(&format!("0 0 18 {state} 1 001001")), "{}", answers[2]);
+            assert_eq!(answers[3], format!("0 0 12 {state} 1 1 {}", hex(TEXT)));
+        }
+    }
+}
