@@ -19,11 +19,15 @@ use Rattle.numbering.specs.Numbering.{end, Candidate, candidate, isBelow0, isPa
 use Rattle.numbering.proofs.Candidate.{by-the-paper}
 use Rattle.numbering.proofs.State.{accepted-new, accepted-late}
 use Rattle.numbering.proofs.Marks.{accepted-marks}
+use Rattle.octets.specs.Xor.{xored}
+use Rattle.keystreams.proofs.Laws.{gea4-prepared}
 use Rattle.frames.specs.Frame.{AreOctets, frame, headerOf, payloadOf, lookOrder}
 use Rattle.frames.proofs.ReadBack.{length-payload, header-of-range, frame-of-octets}
 use Rattle.frames.proofs.Laws.{look-empty}
 use Rattle.link.specs.declared.Link.{Link}
-use Rattle.link.specs.Link.{linkOf, ciphered, headerAt, frameAt}
+use Rattle.link.specs.Input.{inputOf}
+use Rattle.link.specs.Link.{linkOrder, linkOf, ciphered, headerAt, frameAt}
+use Rattle.link.proofs.Links.{opened-key}
 use Rattle.link.proofs.Frames.{length-ciphered, ciphered-twice, length-frame-at}
 use Rattle.sender.specs.declared.Sender.{Sender}
 use Rattle.sender.specs.Sender.{newSender, afterFrame}
@@ -282,22 +286,26 @@ module _ (w : ℕ) (wide : 0 < w) (narrow : w ≤ 512) (receiver : Receiver) (oc
 
 -- ---- the link of an end that was opened
 
-holds-link : (key : List ℕ) (iov sapi direction : ℕ) {link : Link} → link ≡ linkOf key iov sapi direction → HoldsLink key iov sapi direction link
-unfolding linkOf
-holds-link key iov sapi direction is = record {
+holds-link : (key : List ℕ) (iov sapi direction : ℕ) {link : Link} → first (linkOrder key sapi direction) ≡ 0 → link ≡ linkOf key iov sapi direction
+    → HoldsLink key iov sapi direction link
+unfolding linkOf ciphered
+holds-link key iov sapi direction nothing is = record {
   key-is = ap (λ (l : Link). l .key) is;
   iov-is = ap (λ (l : Link). l .iov) is;
   sapi-is = ap (λ (l : Link). l .sapi) is;
   direction-is = ap (λ (l : Link). l .direction) is;
+  ciphers = λ n payload.
+      ap (λ (l : Link). ciphered l n payload) is
+      ∙ ap (xored payload) (gea4-prepared key (inputOf iov sapi n) direction (length payload) (opened-key key iov sapi direction nothing));
 }
 
 pub by-the-rule : (w : ℕ) → 0 < w → w ≤ 512 → ByTheRule w
 unfolding newSender newReceiver afterFrame front
 by-the-rule w wide narrow = record {
   sender-opened = λ key iov sapi direction answered.
-      holds-link key iov sapi direction (ap (λ (s : Sender). s .link) (opened-sender key iov sapi direction answered));
+      holds-link key iov sapi direction (sym (answered .refusal-is)) (ap (λ (s : Sender). s .link) (opened-sender key iov sapi direction answered));
   receiver-opened = λ key iov sapi direction answered.
-      holds-link key iov sapi direction (ap (λ (r : Receiver). r .link) (opened-receiver key iov sapi direction answered));
+      holds-link key iov sapi direction (sym (answered .refusal-is)) (ap (λ (r : Receiver). r .link) (opened-receiver key iov sapi direction answered));
   sealed = λ sender payload before {number} {size} {later} {after} answered.
       let done = seal-done sender payload before answered in
       let whole : List ℕ = frameAt (sender .link) (sender .next) payload in

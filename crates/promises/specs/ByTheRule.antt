@@ -10,21 +10,26 @@ use lib.ListN.{length, take, drop}
 use Rattle.refusals.specs.Refusal.{first}
 use Rattle.refusals.specs.Call.{Answered}
 use Rattle.numbering.specs.Numbering.{end, isAccepted, Candidate}
+use Rattle.octets.specs.Xor.{xored}
 use Rattle.keystreams.specs.Key.{prepared}
+use Rattle.keystreams.specs.Gea4.{gea4Output}
 use Rattle.frames.specs.Frame.{AreOctets, headerOf, payloadOf, lookOrder, looked}
 use Rattle.link.specs.declared.Link.{Link}
-use Rattle.link.specs.Link.{frameAt}
+use Rattle.link.specs.Input.{inputOf}
+use Rattle.link.specs.Link.{ciphered, frameAt}
 use Rattle.sender.specs.declared.Sender.{Sender}
 use Rattle.sender.specs.Sender.{openSenderCall, sealCall}
 use Rattle.receiver.specs.declared.Receiver.{Receiver}
 use Rattle.receiver.specs.Receiver.{Opening, receiverCanArise, isOfLink, openReceiverCall, openCall}
 
--- the link of an end that was opened: it holds the prepared key, and the rest as it was given
+-- the link of an end that was opened: it holds the prepared key, and the rest as it was given. So what it ciphers under number n, it ciphers with the
+-- GEA4 octets of the key that it was opened with; these are GEA3's where the key has 8 octets
 pub record HoldsLink (key : List ℕ) (iov sapi direction : ℕ) (link : Link) : Type 0 where
   pub key-is : link .key ≡ prepared key
   pub iov-is : link .iov ≡ iov
   pub sapi-is : link .sapi ≡ sapi
   pub direction-is : link .direction ≡ direction
+  pub ciphers : (n : ℕ) (payload : List ℕ) → ciphered link n payload ≡ xored payload (gea4Output key (inputOf iov sapi n) direction (length payload))
 
 -- a payload that was sealed: under the next number, the whole frame of that number stands at the front of the output, p + 6 octets; the octets past
 -- it are kept; and the next number is one more
