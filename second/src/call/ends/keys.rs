@@ -37,23 +37,21 @@ mod tests {
     use crate::call;
     use crate::lines::hex;
 
-    /// The key, written twice by hand.
-    const PREPARED: &str = "3B587592AFCCE9063B587592AFCCE906";
+    /// The key, and the key written twice by hand.
+    const KEYS: [&str; 2] = ["3B587592AFCCE906", "3B587592AFCCE9063B587592AFCCE906"];
 
     #[test]
     fn ends_of_a_key_and_of_the_key_doubled_understand_each_other() {
         let lines = lines();
         assert_eq!(lines.len(), 4 * 4);
         for (place, both) in lines.chunks(4).enumerate() {
-            let lengths = [16, 32].map(|digits| {
-                let key = both[usize::from(digits == 32) ^ (place % 2)].split(' ').nth(1).unwrap();
-                key.len() == digits && PREPARED.starts_with(key)
-            });
-            assert_eq!(lengths, [true, true], "{both:?}");
+            let [sender_key, receiver_key] = [0, 1].map(|end| both[end].split(' ').nth(1).unwrap());
+            let (own, other) = (place % 2, 1 - place % 2);
+            assert_eq!((sender_key, receiver_key), (KEYS[own], KEYS[other]));
 
             let answers: Vec<String> =
                 both.iter().map(|line| call::answer(line.as_bytes()).unwrap()).collect();
-            let state = format!("{PREPARED} {IOV} {SAPI} {}", place / 2);
+            let state = format!("{} {IOV} {SAPI} {}", KEYS[1], place / 2);
             assert_eq!(answers[0], format!("0 {state} 0"));
             assert_eq!(answers[1], format!("0 {state} 0 0"));
             assert!(answers[2].starts_with(&format!("0 0 18 {state} 1 001001")), "{}", answers[2]);
