@@ -69,7 +69,7 @@ fn a5(
 }
 
 /// A key that 1 refuses.
-const SHORT_KEY: &str = "000102030405060708090A0B0C0D0E";
+const BAD_KEY: &str = "000102030405060708090A0B0C0D0E";
 
 fn cases() -> Vec<String> {
     let parts = [
@@ -142,7 +142,7 @@ fn rooms() -> Vec<String> {
 /// Every set of causes that can meet in a call, so that the order of the refusals shows.
 fn refusals() -> Vec<String> {
     let mut lines = Vec::new();
-    for key in [KEY, SHORT_KEY] {
+    for key in [KEY, BAD_KEY] {
         for (cb, cd) in [(31, 1), (32, 1), (31, 2), (32, 2)] {
             for cl in [9, 0, 524_289] {
                 lines

@@ -98,7 +98,7 @@ mod tests {
     use super::*;
 
     #[test]
-    fn a_short_key_is_named_before_a_range_and_leaves_a_state_for_12() {
+    fn a_bad_key_is_named_before_a_range_and_leaves_a_state_for_12() {
         let (refusal, sender) = open_sender(&[7; 15], 5, 16, 2);
         assert_eq!((refusal, sender), (KEY, Sender { link: NO_LINK, next: 0 }));
         assert!(sender.cannot_arise());
