@@ -2,9 +2,9 @@
 # Fails when a page names a file or a name that does not exist, or leads to a heading that does not; when docs/USING.md does not show the files of the
 # crate `using` as they are; when docs/CALLS.md or the list that promises 1 and 2 speak of do not have exactly the public calls, or the lines of `call`
 # on docs/CALLS.md are not those of the library's; when the contract of a public call does not cite its entry of that list, or leaves out something that
-# the call gives back; when the statement of the short keys leaves out a call with a parameter `key` that may have 8 octets; when docs/ARCHITECTURE.md does not say what crates.txt
-# says; when docs/FRAME.md does not have exactly the services of the definition; when docs/PROMISES.md calls a changed statement a wrong program; or
-# when a public function has a `requires`.
+# the call gives back; when the statement of the short keys leaves out a call with a parameter `key` that may have 8 octets; when docs/ARCHITECTURE.md
+# does not say what crates.txt says; when docs/FRAME.md does not have exactly the services of the definition; when docs/PROMISES.md calls a changed
+# statement a wrong program; or when a public function has a `requires`.
 # On the pages, `crate/folder/File.ext#name` is a name in a file under crates/, and `a/path.ext` a file.
 set -euo pipefail
 top=$(cd "$(dirname "$0")/.." && pwd -P)

@@ -8,7 +8,6 @@ use mathlib.Core.Bool.{true, true≢false}
 use mathlib.Core.List.{List, [], _∷_}
 use lib.Dec.{lit≤}
 use lib.ListN.{length}
-use Rattle.refusals.specs.Call.{Answered}
 use Rattle.refusals.proofs.Tests.{by-test}
 use Rattle.octets.specs.Xor.{xored}
 use Rattle.octets.proofs.Xored.{xored-shared}
@@ -23,7 +22,7 @@ use Rattle.link.proofs.Links.{service-most, link-says, opened-link}
 use Rattle.link.proofs.Inputs.{input-tells, two-meets-three}
 use Rattle.link.proofs.Frames.{payload-of-frame-at}
 use Rattle.sender.specs.declared.Sender.{Sender}
-use Rattle.sender.specs.Sender.{newSender, openSenderCall}
+use Rattle.sender.specs.Sender.{newSender}
 use Rattle.sender.proofs.Laws.{opened-sender, seal-done}
 use Rattle.promises.specs.Ends.{SentFrame, IsOneOf, here, there, benchSending}
 use Rattle.promises.specs.Promise3.{Rising, SendersHalf}

@@ -3,12 +3,12 @@
 use Prim.Native.Nat.{ℕ}
 use native.Mathlib.Omega.{arith}
 use mathlib.Core.Path.{_≡_, refl, sym, subst, _∙_}
-use mathlib.Core.Bool.{Bool, true}
+use mathlib.Core.Bool.{true}
 use mathlib.Core.List.{List, [], _∷_, _++_}
 use borrow.Author.Tests.{ne-eqb}
 use lib.ListN.{length}
 use Rattle.refusals.specs.Refusal.{first}
-use Rattle.refusals.specs.Call.{Call, Answered, Outputs, All}
+use Rattle.refusals.specs.Call.{Call, Answered, All}
 use Rattle.refusals.proofs.Calls.{done}
 use Rattle.kasumi.specs.Kasumi.{kasumiOrder}
 use Rattle.kgcore.specs.Kgcore.{kgcoreOrder}
