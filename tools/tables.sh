@@ -1,5 +1,6 @@
 #!/usr/bin/env bash
-# Fails when the tables or the gate equations of the definitions are not the published ones in vectors/.
+# Fails when the tables or the gate equations of the definitions are not the published ones in vectors/, or when the picture of S9 does not have the
+# numbers of the code.
 set -euo pipefail
 top=$(cd "$(dirname "$0")/.." && pwd -P)
 cd "$top/crates/kasumi/specs"
@@ -13,3 +14,6 @@ for n in 7 9; do
         <(sed -n "/^S$n\$/,/^\$/p" "$top/vectors/kasumi-gates.txt" | sed -nE 's/^y[0-9] = //p' | sed -E 's/([0-9])x/\1 * x/g; s/ \^ / + /g') \
         || { echo "gates$n are not the published equations of S$n" >&2; exit 1; }
 done
+
+cmp <(sed -n '/fn s9(/,/^}/p' ../src/tables.rt | grep -oE '0x[0-9A-F]+' | sed -nE 's/^0x(...)$/\1/p') <(grep -oE '>[0-9A-F]{3}<' "$top/docs/pictures/s9.svg" | tr -d '<>') \
+    || { echo 'docs/pictures/s9.svg does not have the numbers of s9' >&2; exit 1; }

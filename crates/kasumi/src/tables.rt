@@ -156,33 +156,32 @@ pub(crate) fn s9(x: u16) -> u16
     let x6 = x / 64 % 2 * 0xFFFF;
     let x7 = x / 128 % 2 * 0xFFFF;
     let x8 = x / 256 % 2 * 0xFFFF;
-    let mut entry = 0x0A7;
-    entry ^= x0 & 0x048;
-    entry ^= x1 & (0x006 ^ x0 & 0x192);
-    entry ^= x2 & (0x120 ^ x0 & 0x081 ^ x1 & 0x188);
-    entry ^= x3 & (0x081 ^ x0 & 0x08C ^ x1 & 0x010 ^ x2 & 0x0C2);
-    entry ^= x4 & (0x010 ^ x0 & 0x002 ^ x1 & 0x022 ^ x2 & 0x008 ^ x3 & 0x104);
-    entry ^= x5 & (0x008 ^ x0 & 0x016 ^ x1 & 0x140 ^ x2 & 0x141 ^ x3 & 0x002 ^ x4 & 0x0E0);
+    let mut entry = x0 & 0x048;
+    entry ^= x1 & (x0 & 0x192 ^ 0x006);
+    entry ^= x2 & (x0 & 0x081 ^ x1 & 0x188 ^ 0x120);
+    entry ^= x3 & (x0 & 0x08C ^ x1 & 0x010 ^ x2 & 0x0C2 ^ 0x081);
+    entry ^= x4 & (x0 & 0x002 ^ x1 & 0x022 ^ x2 & 0x008 ^ x3 & 0x104 ^ 0x010);
+    entry ^= x5 & (x0 & 0x016 ^ x1 & 0x140 ^ x2 & 0x141 ^ x3 & 0x002 ^ x4 & 0x0E0 ^ 0x008);
     entry ^= x6
-        & (0x002 ^ x0 & 0x028 ^ x1 & 0x128 ^ x2 & 0x084 ^ x3 & 0x0D4 ^ x4 & 0x140 ^ x5 & 0x045);
+        & (x0 & 0x028 ^ x1 & 0x128 ^ x2 & 0x084 ^ x3 & 0x0D4 ^ x4 & 0x140 ^ x5 & 0x045 ^ 0x002);
     entry ^= x7
-        & (0x140
-            ^ x0 & 0x011
+        & (x0 & 0x011
             ^ x1 & 0x003
             ^ x2 & 0x083
             ^ x3 & 0x020
             ^ x4 & 0x02C
             ^ x5 & 0x084
-            ^ x6 & 0x034);
+            ^ x6 & 0x034
+            ^ 0x140);
     entry ^= x8
-        & (0x084
-            ^ x0 & 0x00C
+        & (x0 & 0x00C
             ^ x1 & 0x058
             ^ x2 & 0x110
             ^ x3 & 0x150
             ^ x4 & 0x001
             ^ x5 & 0x063
             ^ x6 & 0x020
-            ^ x7 & 0x069);
-    entry
+            ^ x7 & 0x069
+            ^ 0x084);
+    entry ^ 0x0A7
 }

@@ -1,8 +1,9 @@
--- `kasumi::tables::s9` meets its contract: its numbers are those of the gate equations, and what they give is the published entry.
+-- `kasumi::tables::s9` meets its contract: what its numbers give is the published entry, at each input.
 -- Assumes nothing.
 use borrow.Author.Needs.{needs}
-use Rattle.kasumi.specs.Gates.{s9Gates, gates9}
-use Rattle.kasumi.proofs.Products.{one, single, pair, pairs, rows, spread, inRow, inRows, s9-products}
+use mathlib.Core.List.{[], _∷_}
+use Rattle.kasumi.specs.Tables.{s9Table}
+use Rattle.kasumi.proofs.Products.{spread, withBits, ofRow, ofRows, entry, s9-products}
 use Rattle.kasumi.proofs.tables.s9.Statement.{statement}
 use Rattle.kasumi.proofs.tables.s9.Tie as tie
 
@@ -33,9 +34,22 @@ mul-x7 c = search needs
 mul-x8 : tie.Need-mul-x8
 mul-x8 c = search needs
 
+-- the numbers are the code's own; the prover reads them off, and the test is of them
 returns : tie.Need-returns
-unfolding s9Gates gates9 one single pair pairs rows spread inRow inRows
-returns c = s9-products (c .args .x) (c .pre)
+unfolding s9Table spread withBits ofRow ofRows entry
+returns c =
+    s9-products
+    ((_ ∷ []) ∷
+    (_ ∷ _ ∷ []) ∷
+    (_ ∷ _ ∷ _ ∷ []) ∷
+    (_ ∷ _ ∷ _ ∷ _ ∷ []) ∷
+    (_ ∷ _ ∷ _ ∷ _ ∷ _ ∷ []) ∷
+    (_ ∷ _ ∷ _ ∷ _ ∷ _ ∷ _ ∷ []) ∷
+    (_ ∷ _ ∷ _ ∷ _ ∷ _ ∷ _ ∷ _ ∷ []) ∷
+    (_ ∷ _ ∷ _ ∷ _ ∷ _ ∷ _ ∷ _ ∷ _ ∷ []) ∷
+    (_ ∷ _ ∷ _ ∷ _ ∷ _ ∷ _ ∷ _ ∷ _ ∷ _ ∷ []) ∷
+    [])
+    _ tt (c .args .x) (c .pre)
 
 pub s9-spec : {M : Type 1} → statement M
 s9-spec = tie.close (tie.spec mul-x0 mul-x1 mul-x2 mul-x3 mul-x4 mul-x5 mul-x6 mul-x7 mul-x8 returns)
