@@ -1,6 +1,6 @@
 #!/usr/bin/env bash
-# Fails when the tables or the gate equations of the definitions are not the published ones in vectors/, or when the picture of S9 does not have the
-# numbers of the code.
+# Fails when the tables or the gate equations of the definitions are not the published ones in vectors/, or when the numbers of the code's S9, or of its
+# picture, are not those of the published equations.
 set -euo pipefail
 top=$(cd "$(dirname "$0")/.." && pwd -P)
 cd "$top/crates/kasumi/specs"
@@ -15,5 +15,14 @@ for n in 7 9; do
         || { echo "gates$n are not the published equations of S$n" >&2; exit 1; }
 done
 
-cmp <(sed -n '/fn s9(/,/^}/p' ../src/tables.rt | grep -oE '0x[0-9A-F]+' | sed -nE 's/^0x(...)$/\1/p') <(grep -oE '>[0-9A-F]{3}<' "$top/docs/pictures/s9.svg" | tr -d '<>') \
-    || { echo 'docs/pictures/s9.svg does not have the numbers of s9' >&2; exit 1; }
+# The number of a product has bit i where the equation of yi has it; here in the order of the code, row by row, each bit alone last, at the end that of 1.
+equations=$(sed -n '/^S9$/,/^$/p' "$top/vectors/kasumi-gates.txt" | sed -nE 's/^y([0-9]) = (.*)/\1 ^ \2/p' | awk -F ' \\^ ' '
+    { for (k = 2; k <= NF; k++) number[$k] += 2 ^ $1 }
+    END {
+        for (k = 0; k < 9; k++) { for (j = 0; j < k; j++) printf "%03X\n", number["x" j "x" k]; printf "%03X\n", number["x" k] }
+        printf "%03X\n", number[1]
+    }')
+code=$(sed -n '/fn s9(/,/^}/p' ../src/tables.rt | grep -oE '0x[0-9A-F]+' | sed -nE 's/^0x(...)$/\1/p')
+picture=$(grep -oE '>[0-9A-F]{3}<' "$top/docs/pictures/s9.svg" | tr -d '<>')
+[ "$code" = "$equations" ] || { echo 'the numbers of s9 are not those of the published equations' >&2; exit 1; }
+[ "$picture" = "$code" ] || { echo 'docs/pictures/s9.svg does not have the numbers of s9' >&2; exit 1; }

@@ -37,6 +37,7 @@ unfoldable pub entry : ℕ → List (List ℕ) → ℕ → ℕ
 entry x [] always = always
 entry x (row ∷ rows) always = bitXor (ofRows x 1 (bitAnd (spread x 0) (ofRow x row)) rows) always
 
+-- whether the rows give y for x
 abbrev gives : List (List ℕ) → ℕ → ℕ → ℕ → Bool
 gives rows always x y = eqb (entry x rows always) y
 
