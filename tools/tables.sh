@@ -3,7 +3,7 @@
 # picture, are not those of the published equations.
 set -euo pipefail
 top=$(cd "$(dirname "$0")/.." && pwd -P)
-cd "$top/crates/kasumi/specs"
+cd "$top/crates/sboxes/specs"
 
 numbers() { grep -v '^#' | grep -oE '[0-9]+'; }
 table() { sed -n "/^$1 =/,/\[\]/p" Tables.antt | sed '1d' | numbers; }
@@ -22,7 +22,7 @@ equations=$(sed -n '/^S9$/,/^$/p' "$top/vectors/kasumi-gates.txt" | sed -nE 's/^
         for (k = 0; k < 9; k++) { for (j = 0; j < k; j++) printf "%03X\n", number["x" j "x" k]; printf "%03X\n", number["x" k] }
         printf "%03X\n", number[1]
     }')
-code=$(sed -n '/fn s9(/,/^}/p' ../src/tables.rt | grep -oE '0x[0-9A-F]+' | sed -nE 's/^0x(...)$/\1/p')
+code=$(sed -n '/fn s9(/,/^}/p' ../src/boxes.rt | grep -oE '0x[0-9A-F]+' | sed -nE 's/^0x(...)$/\1/p')
 picture=$(grep -oE '>[0-9A-F]{3}<' "$top/docs/pictures/s9.svg" | tr -d '<>')
 [ "$code" = "$equations" ] || { echo 'the numbers of s9 are not those of the published equations' >&2; exit 1; }
 [ "$picture" = "$code" ] || { echo 'docs/pictures/s9.svg does not have the numbers of s9' >&2; exit 1; }

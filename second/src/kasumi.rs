@@ -14,15 +14,23 @@ pub struct RoundKeys {
     pub ki: [Bits; 3],
 }
 
+/// A function FI: 16 bits to 16 bits, under a key of 16.
+pub type Fi<'a> = &'a dyn Fn(&[bool], &[bool]) -> Bits;
+
 /// KASUMI of a 64-bit block under a 128-bit key.
 pub fn kasumi(key: &[bool], block: &[bool]) -> Bits {
+    rounds(&fi, &key_schedule(key), block)
+}
+
+/// The rounds under these keys, by a function FI.
+pub fn rounds(fi: Fi, schedule: &[RoundKeys], block: &[bool]) -> Bits {
     let mut left = block[..32].to_vec();
     let mut right = block[32..].to_vec();
-    for (round, keys) in (1..).zip(key_schedule(key)) {
+    for (round, keys) in (1..).zip(schedule) {
         let changed = if round % 2 == 1 {
-            fo(&fl(&left, &keys), &keys)
+            fo(fi, &fl(&left, keys), keys)
         } else {
-            fl(&fo(&left, &keys), &keys)
+            fl(&fo(fi, &left, keys), keys)
         };
         (left, right) = (xor(&right, &changed), left);
     }
@@ -58,7 +66,7 @@ fn fl(input: &[bool], keys: &RoundKeys) -> Bits {
 }
 
 /// FO, 32 bits to 32 bits, in three steps.
-fn fo(input: &[bool], keys: &RoundKeys) -> Bits {
+fn fo(fi: Fi, input: &[bool], keys: &RoundKeys) -> Bits {
     let mut left = input[..16].to_vec();
     let mut right = input[16..].to_vec();
     for (ko, ki) in keys.ko.iter().zip(&keys.ki) {

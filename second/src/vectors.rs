@@ -102,6 +102,7 @@ pub fn calls(file: &str) -> Result<Vec<Published>, String> {
             calls.extend(gea4(&set)?);
         } else {
             calls.extend(chain(&set)?);
+            calls.extend(round_keys(&set)?);
         }
     }
     Ok(calls)
@@ -123,6 +124,23 @@ pub fn recorded(file: &str) -> Result<Vec<Recorded>, String> {
         })
     };
     sets(file)?.iter().filter(|set| set.has("iov")).map(recorded).collect()
+}
+
+/// The names of a round's keys, in the order in which the product hands them out.
+const ROUND_KEYS: [&str; 8] = ["KL1", "KL2", "KO1", "KO2", "KO3", "KI1", "KI2", "KI3"];
+
+/// The keys of all rounds, where the set gives them: on the line of a name one for each round.
+fn round_keys(set: &Set) -> Result<Option<Published>, String> {
+    if !set.has("KL1") {
+        return Ok(None);
+    }
+    let lines: Result<Vec<&str>, String> = ROUND_KEYS.iter().map(|name| set.value(name)).collect();
+    let lines: Vec<Vec<&str>> = lines?.iter().map(|line| line.split(' ').collect()).collect();
+    let words = (0..8).flat_map(|round| lines.iter().map(move |line| line.get(round).copied()));
+    let words: Option<Vec<&str>> = words.collect();
+    let words = words.ok_or("a set has fewer than eight round keys on a line")?.concat();
+    let key = set.value("key")?;
+    Ok(Some(Published { call: format!("round_keys {key}"), answer: Some(format!("0 {words}")) }))
 }
 
 fn kgcore(set: &Set) -> Result<Published, String> {

@@ -6,6 +6,7 @@ mod fields;
 mod headers;
 mod links;
 mod numbers;
+mod rounds;
 mod states;
 mod tell;
 
@@ -16,6 +17,9 @@ use tell::Answer;
 fn answer(line: &[u8]) -> bool {
     let cursor = fields::start(line);
     if let Answer::Told(told) = ciphers::answer(line, cursor) {
+        return told;
+    }
+    if let Answer::Told(told) = rounds::answer(line, cursor) {
         return told;
     }
     if let Answer::Told(told) = bits::answer(line, cursor) {

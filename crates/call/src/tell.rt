@@ -15,8 +15,8 @@ pub(crate) fn bad() -> bool {
     io::write_all(STDOUT_FILENO, b"?\n")
 }
 
-// A refusal and a block, which is sixteen hex digits.
-pub(crate) fn block(refusal: u8, block: u64) -> bool {
+// The octets of a block.
+fn octets_of(block: u64) -> [u8; 8] {
     let mut octets = [0u8; 8];
     let mut rest = block;
     let mut i: usize = 8;
@@ -25,7 +25,24 @@ pub(crate) fn block(refusal: u8, block: u64) -> bool {
         octets[i] = (rest % 256) as u8;
         rest /= 256;
     }
+    octets
+}
+
+// A refusal and a block, which is sixteen hex digits.
+pub(crate) fn block(refusal: u8, block: u64) -> bool {
+    let octets = octets_of(block);
     part(refusal, &octets)
+}
+
+// A block alone.
+pub(crate) fn block_alone(block: u64) -> bool {
+    let octets = octets_of(block);
+    octets_alone(&octets)
+}
+
+// Octets alone.
+pub(crate) fn octets_alone(octets: &[u8]) -> bool {
+    line_end(hex(octets))
 }
 
 // A refusal and octets.

@@ -1,6 +1,5 @@
--- The laws of this crate: what a whole table's test says of each entry, the S-boxes, S9 by its products, the words, and what callers use.
+-- The laws of this crate: the words and halves, the cipher by what is lent to it, and what callers use.
 pub mod Calling
-pub mod Entries
-pub mod Products
-pub mod SBoxes
+pub mod Joined
+pub mod Lent
 pub mod Words

@@ -9,7 +9,7 @@ use lib.ListN.{length, getD}
 use Rattle.refusals.specs.Refusal.{Row}
 use Rattle.refusals.specs.Call.{Call, tells}
 use Rattle.octets.specs.Bits.{join}
-use Rattle.kasumi.specs.Tables.{s7, s9}
+use Rattle.sboxes.specs.Tables.{s7, s9}
 use Rattle.kasumi.specs.declared.schedule.Keys.{Keys}
 
 -- a number but for its lowest w bits, and those w bits
@@ -71,31 +71,34 @@ fi ki x =
     let h = bitXor (s7 d) (g % 128) in
     join 9 h g
 
--- one of the three steps of FO on 32 bits
-unfoldable pub foStep : ℕ → ℕ → ℕ → ℕ
-foStep ko ki x = join 16 (right 16 x) (bitXor (fi ki (bitXor (left 16 x) ko)) (right 16 x))
+-- FO and the rounds are of a function FI and of the keys of each round. For KASUMI these are the two above; Lent.antt has FI from a table and
+-- keys from a list
 
-unfoldable pub fo : Keys → ℕ → ℕ
-fo keys x = foStep (keys .ko3) (keys .ki3) (foStep (keys .ko2) (keys .ki2) (foStep (keys .ko1) (keys .ki1) x))
+-- one of the three steps of FO on 32 bits
+unfoldable pub foStep : (ℕ → ℕ → ℕ) → ℕ → ℕ → ℕ → ℕ
+foStep FI ko ki x = join 16 (right 16 x) (bitXor (FI ki (bitXor (left 16 x) ko)) (right 16 x))
+
+unfoldable pub fo : (ℕ → ℕ → ℕ) → Keys → ℕ → ℕ
+fo FI keys x = foStep FI (keys .ko3) (keys .ki3) (foStep FI (keys .ko2) (keys .ki2) (foStep FI (keys .ko1) (keys .ki1) x))
 
 -- the function f of round i on 32 bits: FL, then FO in odd rounds; FO, then FL in even ones
-unfoldable pub f : List ℕ → ℕ → ℕ → ℕ
-f key i x =
-    let keys = roundKeys key i in
-    cond (eqb (i % 2) 1) (fo keys (fl (keys .kl1) (keys .kl2) x)) (fl (keys .kl1) (keys .kl2) (fo keys x))
+unfoldable pub f : (ℕ → ℕ → ℕ) → (ℕ → Keys) → ℕ → ℕ → ℕ
+f FI keysOf i x =
+    let keys = keysOf i in
+    cond (eqb (i % 2) 1) (fo FI keys (fl (keys .kl1) (keys .kl2) x)) (fl (keys .kl1) (keys .kl2) (fo FI keys x))
 
 -- round i over the halves of 64 bits: the new right is the old left; the new left is the old right xor f of the old left
-unfoldable pub round : List ℕ → ℕ → ℕ → ℕ
-round key i x = join 32 (bitXor (right 32 x) (f key i (left 32 x))) (left 32 x)
+unfoldable pub round : (ℕ → ℕ → ℕ) → (ℕ → Keys) → ℕ → ℕ → ℕ
+round FI keysOf i x = join 32 (bitXor (right 32 x) (f FI keysOf i (left 32 x))) (left 32 x)
 
 -- the first n rounds
-unfoldable pub rounds : List ℕ → ℕ → ℕ → ℕ
-rounds key zero x = x
-rounds key (suc n) x = round key (suc n) (rounds key n x)
+unfoldable pub rounds : (ℕ → ℕ → ℕ) → (ℕ → Keys) → ℕ → ℕ → ℕ
+rounds FI keysOf zero x = x
+rounds FI keysOf (suc n) x = round FI keysOf (suc n) (rounds FI keysOf n x)
 
 -- KASUMI of a block under a key
 unfoldable pub kasumi : List ℕ → ℕ → ℕ
-kasumi key block = rounds key 8 block
+kasumi key block = rounds fi (roundKeys key) 8 block
 
 -- the refusals of a call: 1 where the key is not 16 octets
 unfoldable pub kasumiOrder : List ℕ → List Row

@@ -1,4 +1,3 @@
-pub mod Gates
+pub mod Halves
 pub mod Kasumi
-pub mod Permutation
-pub mod Tables
+pub mod Lent

@@ -2,7 +2,9 @@
 ghost use mathlib.Core.Path.{_≡_};
 ghost use Prim.Native.Nat.{_<_, _≤_};
 ghost use lib.ListN.{length};
+ghost use lib.Seq.{sets};
 ghost use Rattle.kasumi.specs.Kasumi.{keyWord, keyWord′, constant, rot as Kasumi·rot, roundKeys};
+ghost use Rattle.kasumi.specs.Lent.{wordsOf, roundWords, keysAt};
 
 const CONSTANTS: [u16; 8] = [
     0x0123,
@@ -66,5 +68,52 @@ pub(crate) fn keys_of_round(key: &[u8], i: usize) -> Keys
         ki1: changed_word(key, i + 4),
         ki2: changed_word(key, i + 3),
         ki3: changed_word(key, i + 7),
+    }
+}
+
+// Puts the keys of one round to eight places from `at` on.
+fn put_keys(keys: Keys, at: usize, words: &mut [u16; 64])
+    requires { ⌜ at ≤ 56 ⌝ }
+    ensures { λ _. ⌜ now (words .exit) ≡ sets (now (words .entry)) at (wordsOf keys) ⌝ }
+{
+    words[at] = keys.kl1;
+    words[at + 1] = keys.kl2;
+    words[at + 2] = keys.ko1;
+    words[at + 3] = keys.ko2;
+    words[at + 4] = keys.ko3;
+    words[at + 5] = keys.ki1;
+    words[at + 6] = keys.ki2;
+    words[at + 7] = keys.ki3;
+}
+
+// The keys of all eight rounds, one round after the other.
+pub(crate) fn keys_of_rounds(key: &[u8]) -> [u16; 64]
+    requires { ⌜ length (now key) ≡ 16 ⌝ }
+    ensures { λ r. ⌜ r ≡ roundWords (now (key .entry)) 8 ⌝ }
+{
+    let mut words = [0u16; 64];
+    let mut i = 0;
+    while i < 8 {
+        put_keys(keys_of_round(key, i + 1), 8 * i, &mut words);
+        i += 1;
+    }
+    words
+}
+
+// The keys of round i among the words of all rounds.
+pub(crate) fn keys_at(words: &[u16; 64], i: usize) -> Keys
+    requires { ⌜ (0 < i) × (i ≤ 8) ⌝ }
+    ensures { λ r. ⌜ r ≡ keysAt (now (words .entry)) i ⌝ }
+{
+    let at = 8 * (i - 1);
+    Keys {
+        kl1: words[at],
+        kl2: words[at + 1],
+        ko1: words[at + 2],
+        ko2: words[at + 3],
+        ko3: words[at + 4],
+        ki1: words[at + 5],
+        ki2: words[at + 6],
+        ki3: words[at + 7],
     }
 }

@@ -1,15 +1,24 @@
--- The blocks of the keystream, one after the other, as octets.
+-- The octets of the modified key, and the blocks of the keystream, one after the other, as octets.
 -- Assumes nothing.
 use mathlib.Core.Path.{_≡_, sym, ap, ap₂, _∙_}
-use mathlib.Core.List.{List}
-use Prim.Native.Nat.{ℕ, _+_, _-_, _*_, _/_, _%_, _^_, _<_}
+use mathlib.Core.List.{List, [], _∷_}
+use Prim.Native.Nat.{ℕ, zero, suc, _+_, _-_, _*_, _/_, _%_, _^_, _<_}
 use native.Mathlib.Numerals.{add-one}
 use native.Mathlib.Omega.{arith}
-use lib.Bits.{bitXor}
+use lib.Bits.{bitXor, xor-lt}
+use lib.Dec.{lit<}
+use lib.ListN.{getD}
 use Rattle.octets.specs.Bits.{bitAt, octet}
 use Rattle.octets.proofs.Number.{number-ext, number-bits}
 use Rattle.kasumi.specs.Kasumi.{kasumi}
-use Rattle.kgcore.specs.Kgcore.{block}
+use Rattle.kgcore.specs.Kgcore.{block, modified}
+
+-- the modified key is octets, as the key is
+pub modified-octets : (key : List ℕ) → ((i : ℕ) → getD key i 0 < 256) → (i : ℕ) → getD (modified key) i 0 < 256
+unfolding modified
+modified-octets [] each i = lit< tt
+modified-octets (octet ∷ rest) each zero = xor-lt 8 octet 0x55 (each 0) (lit< tt)
+modified-octets (octet ∷ rest) each (suc i) = modified-octets rest (λ j. each (suc j)) i
 
 -- bit i of the blocks from block 1 on, under a register A
 abbrev pub streamBit : List ℕ → ℕ → ℕ → ℕ

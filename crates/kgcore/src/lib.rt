@@ -5,9 +5,9 @@ ghost use Prim.Native.Nat.{_≤_, _<_, min};
 ghost use lib.Bits.{bitXor};
 ghost use lib.ListN.{length, drop};
 ghost use Rattle.octets.specs.Bits.{bitAt, octet, listed, size as Bits·size, stored};
-ghost use Rattle.kasumi.specs.Kasumi.{kasumi as Kasumi·kasumi};
+ghost use Rattle.kasumi.specs.Lent.{roundWords, cipheredBy};
 ghost use Rattle.refusals.specs.Call.{Answered};
-ghost use Rattle.kgcore.specs.Kgcore.{kgcoreCall, keyBit, registerA};
+ghost use Rattle.kgcore.specs.Kgcore.{kgcoreCall, keyBit};
 ghost use Rattle.kgcore.specs.Kgcore.{register as Kgcore·register, modified as Kgcore·modified, blocks as Kgcore·blocks};
 
 // The most bits that one call may ask for: 2^19 (document 01, "On the bench, and off it").
@@ -48,22 +48,21 @@ fn modified(key: &[u8]) -> [u8; 16]
     changed
 }
 
-// KASUMI under a key of 16 octets, which it never refuses.
-fn cipher(key: &[u8], block: u64) -> u64
+// The round keys of a key of 16 octets, which is never refused.
+fn round_keys(key: &[u8]) -> [u16; 64]
     requires { ⌜ length (now key) ≡ 16 ⌝ }
-    ensures { λ r. ⌜ r ≡ Kasumi·kasumi (now (key .entry)) block ⌝ }
+    ensures { λ r. ⌜ r ≡ roundWords (now (key .entry)) 8 ⌝ }
 {
-    let ciphered = kasumi::kasumi(key, block);
-    ciphered.block
+    let keys = kasumi::round_keys(key);
+    keys.words
 }
 
-// The register A that the blocks use.
-fn register_a(inputs: Inputs, key: &[u8]) -> u64
-    requires { ⌜ (length (now key) ≡ 16) × ((inputs .cb ≤ 31) × (inputs .cd ≤ 1)) ⌝ }
-    ensures { λ r. ⌜ r ≡ registerA (now (key .entry)) inputs ⌝ }
+// The register ciphered under the round keys that are lent: those of the modified key make of it the register A that the blocks use.
+fn register_a(inputs: Inputs, table: &[u16; 640], words: &[u16; 64]) -> u64
+    requires { ⌜ (inputs .cb ≤ 31) × (inputs .cd ≤ 1) ⌝ }
+    ensures { λ r. ⌜ r ≡ cipheredBy (now (table .entry)) (now (words .entry)) (Kgcore·register inputs) ⌝ }
 {
-    let changed = modified(key);
-    cipher(&changed, register(inputs))
+    kasumi::cipher_block(table, words, register(inputs))
 }
 
 // How many blocks CL bits need (4.5).
@@ -74,11 +73,10 @@ fn blocks(cl: u32) -> usize
 }
 
 // The block after block n: its counter is n (4.5).
-fn next_block(key: &[u8], a: u64, n: u64, block: u64) -> u64
-    requires { ⌜ length (now key) ≡ 16 ⌝ }
-    ensures { λ r. ⌜ r ≡ Kasumi·kasumi (now (key .entry)) (bitXor (bitXor a n) block) ⌝ }
+fn next_block(table: &[u16; 640], words: &[u16; 64], a: u64, n: u64, block: u64) -> u64
+    ensures { λ r. ⌜ r ≡ cipheredBy (now (table .entry)) (now (words .entry)) (bitXor (bitXor a n) block) ⌝ }
 {
-    cipher(key, a ^ n ^ block)
+    kasumi::cipher_block(table, words, a ^ n ^ block)
 }
 
 // Puts the octets of a block to the front of the output, as far as it goes.
@@ -93,19 +91,23 @@ fn put(block: u64, output: &mut [u8])
     }
 }
 
-// The first CL bits of the blocks, at the front of an output that has room for them.
+// The first CL bits of the blocks, at the front of an output that has room for them. The table and the round keys are prepared once for all blocks.
 fn generate(inputs: Inputs, key: &[u8], cl: u32, output: &mut [u8])
     requires { ⌜ (length (now key) ≡ 16) × ((inputs .cb ≤ 31) × (inputs .cd ≤ 1)) ⌝ }
     requires { ⌜ (0 < cl) × (Bits·size cl ≤ length (now output)) ⌝ }
     ensures { λ _. ⌜ now (output .exit) ≡ stored (keyBit (now (key .entry)) inputs) 0 cl ++ drop (Bits·size cl) (now (output .entry)) ⌝ }
 {
     let size = octets::size(cl);
-    let a = register_a(inputs, key);
+    let table = sboxes::fi_table();
+    let changed = modified(key);
+    let first = round_keys(&changed);
+    let words = round_keys(key);
+    let a = register_a(inputs, &table, &first);
     let count = blocks(cl);
     let mut block = 0;
     let mut n = 0;
     while n < count {
-        block = next_block(key, a, n as u64, block);
+        block = next_block(&table, &words, a, n as u64, block);
         let at = 8 * n;
         put(block, &mut output[at..size]);
         n += 1;

@@ -47,7 +47,7 @@ IsOrder Lent call = T (isOrder (call .order))
 orders : All (Always IsOrder) publicCalls
 unfolding cutOrder xorOrder kasumiOrder kgcoreOrder keyOrder a5Order gea4Order candidateOrder numberOrder lookOrder headerOrder linkOrder cipherOrder sealOrder openOrder digitsOrder roomOrder hexOrder
 orders =
-    tt ⊗ tt ⊗ tt ⊗ in4 ⊗ in3 ⊗ in2 ⊗ in4 ⊗ in1 ⊗ in3 ⊗ in3 ⊗ in5 ⊗ tt ⊗ tt ⊗ in2 ⊗ tt ⊗ in1 ⊗ tt ⊗ in3 ⊗ tt ⊗ in4 ⊗ in4 ⊗ in4 ⊗ in3 ⊗ in4 ⊗ in3 ⊗ in1 ⊗ in1 ⊗ in2 ⊗ in2 ⊗ in2 ⊗ in2 ⊗ tt ⊗ tt ⊗ tt ⊗ tt
+    tt ⊗ tt ⊗ tt ⊗ in4 ⊗ in3 ⊗ tt ⊗ in1 ⊗ tt ⊗ in2 ⊗ in4 ⊗ in1 ⊗ in3 ⊗ in3 ⊗ in5 ⊗ tt ⊗ tt ⊗ in2 ⊗ tt ⊗ in1 ⊗ tt ⊗ in3 ⊗ tt ⊗ in4 ⊗ in4 ⊗ in4 ⊗ in3 ⊗ in4 ⊗ in3 ⊗ in1 ⊗ in1 ⊗ in2 ⊗ in2 ⊗ in2 ⊗ in2 ⊗ tt ⊗ tt ⊗ tt ⊗ tt
 
 pub all-answer : All (Always (λ Lent call. Answers call)) publicCalls
 all-answer = of-all (λ Lent call order. answers call order) publicCalls orders

@@ -5,7 +5,9 @@ use Rattle.refusals.specs.Call.{PublicCall, function, given, call1, call2, call
 use Rattle.octets.specs.Bits.{size, firstBits, octetOrZero}
 use Rattle.octets.specs.Cut.{cutCall}
 use Rattle.octets.specs.Xor.{xorCall}
+use Rattle.sboxes.specs.FiTable.{fiTable}
 use Rattle.kasumi.specs.Kasumi.{kasumiCall}
+use Rattle.kasumi.specs.Lent.{roundKeysCall, cipheredBy}
 use Rattle.kgcore.specs.Kgcore.{kgcoreCall}
 use Rattle.keystreams.specs.Key.{prepareKeyCall}
 use Rattle.keystreams.specs.A5.{gsmKind, ecsdKind, a5Call}
@@ -31,6 +33,12 @@ publicCalls =
     call4 cutCall ∷
     -- octets::xor
     call3 xorCall ∷
+    -- sboxes::fi_table
+    function fiTable ∷
+    -- kasumi::round_keys
+    call1 roundKeysCall ∷
+    -- kasumi::cipher_block
+    function cipheredBy ∷
     -- kasumi::kasumi
     call2 kasumiCall ∷
     -- kgcore::kgcore

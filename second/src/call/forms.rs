@@ -23,8 +23,8 @@ struct Form {
 enum Type {
     /// Octets, and some that do.
     Octets(&'static str),
-    /// The key of a state.
-    Key,
+    /// So many octets and no others: the key of a state, what the rounds are lent.
+    Exactly(usize),
     /// A number of octets, with the largest.
     Size(u64),
     /// Another number, with the largest.
@@ -69,7 +69,9 @@ impl Type {
             None if field == "KEY" => Type::Octets(KEY),
             None if field == "FRAME" => Type::Octets("00050111000155"),
             None => Type::Octets("c0DE"),
-            Some((_, "key")) => Type::Key,
+            Some((_, "key")) => Type::Exactly(16),
+            Some((_, "table")) => Type::Exactly(1_280),
+            Some((_, "keys")) => Type::Exactly(128),
             Some((_, "size")) => Type::Size(65_600),
             Some((_, "u8")) => Type::Number(u8::MAX.into()),
             Some((_, "u16")) => Type::Number(u16::MAX.into()),
@@ -83,7 +85,7 @@ impl Type {
     fn good(&self) -> String {
         match self {
             Type::Octets(octets) => octets.to_string(),
-            Type::Key => KEY.to_string(),
+            Type::Exactly(count) => KEY.repeat(count / 16),
             Type::Size(_) => "64".to_string(),
             Type::Number(_) => "1".to_string(),
         }
@@ -93,7 +95,7 @@ impl Type {
     fn same_forms(&self) -> Vec<String> {
         let forms: &[&str] = match self {
             Type::Octets(octets) => return vec![octets.to_lowercase(), octets.to_uppercase()],
-            Type::Key => return vec![KEY.to_lowercase()],
+            Type::Exactly(_) => return vec![self.good().to_lowercase()],
             Type::Size(_) => &["0064", "0000000064", "0x40", "0x040", "0x0000000000000040"],
             Type::Number(_) => &["0001", "0000000001", "0x1", "0x01", "0x0000000000000001"],
         };
@@ -104,19 +106,19 @@ impl Type {
     fn ends(&self) -> Vec<String> {
         match self {
             Type::Octets(_) => vec!["-".to_string(), "00".to_string(), "5a".repeat(2_048)],
-            Type::Key => vec!["00".repeat(16), "fF".repeat(16)],
+            Type::Exactly(count) => vec!["00".repeat(*count), "fF".repeat(*count)],
             Type::Size(largest) | Type::Number(largest) => {
                 vec!["0".to_string(), format!("0x{largest:x}")]
             }
         }
     }
 
-    /// What is no number, and one above the largest; what is no octets; a key of another length.
+    /// What is no number, and one above the largest; what is no octets; octets of another number.
     fn bad_forms(&self) -> Vec<String> {
         match self {
             Type::Octets(_) => no_octets(),
-            Type::Key => {
-                let lengths = [1, 8, 15, 17, 2_048].map(|octets| "5A".repeat(octets));
+            Type::Exactly(count) => {
+                let lengths = [1, 8, count - 1, count + 1, 2_048].map(|octets| "5A".repeat(octets));
                 [no_octets(), vec!["-".to_string()], lengths.to_vec()].concat()
             }
             Type::Size(largest) | Type::Number(largest) => {

@@ -16,6 +16,7 @@ mod forms;
 mod headers;
 mod links;
 mod numbers;
+mod rounds;
 
 use crate::cases::ended;
 use crate::lines::fields;
@@ -26,7 +27,8 @@ const LONGEST_LINE: usize = 8192;
 struct Subject {
     /// The name of each, its fields, and the refusals that it can answer, as in
     /// `cut OCTETS START:u32 LENGTH:u32 ROOM:size -> 0 4`. A field without a type is octets, one
-    /// of the type `key` the 16 octets of a state's key.
+    /// of the type `key` the 16 octets of a state's key, one of the types `table` and `keys` the words
+    /// that the rounds of KASUMI are lent.
     forms: &'static [&'static str],
     /// The answer to the fields of a line, or nothing for a line that is not of a form.
     answer: fn(&[&[u8]]) -> Option<String>,
@@ -34,8 +36,9 @@ struct Subject {
     cases: fn() -> Vec<String>,
 }
 
-const SUBJECTS: [Subject; 6] = [
+const SUBJECTS: [Subject; 7] = [
     ciphers::SUBJECT,
+    rounds::SUBJECT,
     bits::SUBJECT,
     numbers::SUBJECT,
     headers::SUBJECT,
@@ -100,10 +103,11 @@ mod tests {
         let takes_a_key = |form: &&&str| form.split(' ').nth(1) == Some("KEY");
         let forms: Vec<_> = SUBJECTS.iter().flat_map(|subject| subject.forms).collect();
         let forms: Vec<_> = forms.iter().filter(|form| takes_a_key(form)).collect();
-        assert_eq!(forms.len(), 9);
+        assert_eq!(forms.len(), 10);
         for form in forms {
             let name = form.split(' ').next().unwrap();
-            let lengths: &[usize] = if name.starts_with('k') { &[16] } else { &[8, 16] };
+            let whole = ["kasumi", "kgcore", "round_keys"].contains(&name);
+            let lengths: &[usize] = if whole { &[16] } else { &[8, 16] };
             let mut tried = BTreeSet::new();
             for line in lines.iter().filter(|line| line.split(' ').next() == Some(name)) {
                 let Some(answer) = answer(line.as_bytes()) else { continue };

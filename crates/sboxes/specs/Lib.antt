@@ -1,0 +1,4 @@
+pub mod FiTable
+pub mod Gates
+pub mod Permutation
+pub mod Tables
