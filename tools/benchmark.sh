@@ -1,7 +1,8 @@
 #!/usr/bin/env bash
-# Times GEA4 on outputs of 1,520 and of 65,536 octets: the proved program and the second program built for release, one after the other in one run.
-# It is no test. Programs are compiled for x86-64; on another processor an emulated time means nothing, so there the very module that the kit compiles
-# is compiled once more by the kit's own compiler for this processor, to measure with.
+# Times the proved program `benchmark` beside the second program built for release, in one run: its version with tables, and the club's baseline, which
+# evaluates the equations of S9 at each look-up (document 02, item 9). It is no test. With the word `lengths` it times GEA4 alone, at many lengths.
+# Programs are compiled for x86-64; on another processor an emulated time means nothing, so there the very module that the kit compiles is compiled once
+# more by the kit's own compiler for this processor, to measure with.
 set -euo pipefail
 top=$(cd "$(dirname "$0")/.." && pwd -P)
 cd "$top"
@@ -15,7 +16,7 @@ trap 'rm -rf "$room"' EXIT
 
 # Compiles the proved module for this processor, to $room/native.
 build_native() {
-    local own toolchain
+    local own toolchain dependency
     own=$(kit_home)/on/$(uname -m)
     toolchain=$room/toolchain
     mkdir -p "$toolchain/bin"
@@ -29,42 +30,87 @@ for word in "\$@"; do case \$word in *.bc) cp "\$word" "$room/module.bc" ;; esac
 exec "$own/toolchain/bin/clang" "\$@"
 WRAPPER
     chmod +x "$toolchain/bin/clang"
-    "$own/bin/rattle" build --crate-name benchmark crates/benchmark/src/main.rt \
-        --extern "std=$own/rlib/std.rlib" --extern "keystreams=target/rlib/keystreams.rlib" --extern "lines=target/rlib/lines.rlib" \
-        --extern "io=$own/rlib/io.rlib" --extern "libc=$own/rlib/libc.rlib" -L dependency=target/rlib -L "dependency=$own/rlib" \
+    set --
+    for dependency in std $(sed -n 's/^benchmark: //p' crates.txt); do
+        if [ -d "crates/$dependency" ]; then set -- "$@" --extern "$dependency=target/rlib/$dependency.rlib"; else set -- "$@" --extern "$dependency=$own/rlib/$dependency.rlib"; fi
+    done
+    "$own/bin/rattle" build --crate-name benchmark crates/benchmark/src/main.rt "$@" -L dependency=target/rlib -L "dependency=$own/rlib" \
         --antt-project "$(kit_home)/logic/antt-project.json" --logic-built "$own/logic-built" --toolchain "$toolchain" -o "$room/other.o" >"$room/log" 2>&1 || { cat "$room/log" >&2; exit 1; }
     "$own/toolchain/bin/clang" --target="$(uname -m)-unknown-linux-gnu" -O3 -x ir -c "$room/module.bc" -o "$room/native.o" 2>"$room/log" || { cat "$room/log" >&2; exit 1; }
     gcc "$room/native.o" -o "$room/native"
 }
 
 if [ "$(uname -m)" = x86_64 ]; then
-    ours() { run_proved benchmark; }
+    ours() { printf '%s\n' "$*" | run_proved benchmark; }
 else
     build_native
-    ours() { "$room/native"; }
+    ours() { printf '%s\n' "$*" | "$room/native"; }
 fi
-second() { second/target/release/second benchmark "$1" "$2"; }
+second=$top/second/target/release/second
+# shellcheck disable=SC2086
+baseline() { $second baseline $1; }
+# shellcheck disable=SC2086
+tables() { $second benchmark $1; }
+programs='ours baseline tables'
+rounds=9
 
-# The least of five times of a command, in nanoseconds; what it prints goes to $room/said.
-least() {
-    local best='' began took
-    for _ in 1 2 3 4 5; do
-        began=$(date +%s%N)
-        "$@" >"$room/said"
-        took=$(($(date +%s%N) - began))
-        if [ -z "$best" ] || [ "$took" -lt "$best" ]; then best=$took; fi
-    done
-    echo "$best"
+# The nanoseconds that a program takes for a line; what it says goes to $room/PROGRAM.
+took() {
+    local began
+    began=$(date +%s%N)
+    "$1" "$2" >"$room/$1"
+    echo $(($(date +%s%N) - began))
 }
-on_line() { printf '%s %s\n' "$1" "$2" | ours; }
+
+# least WHAT M COUNT: for each program the least time of a call in nanoseconds, over rounds in which the three take turns. What a program takes to start is
+# measured with no call, and taken off.
+least() {
+    local round program now
+    for program in $programs; do : >"$room/$program.all"; : >"$room/$program.start"; done
+    for round in $(seq $rounds); do
+        printf '\r%s, round %s of %s   ' "$label" "$round" "$rounds" >&2
+        for program in $programs; do
+            now=$(took "$program" "$1 $2 0")
+            echo "$now" >>"$room/$program.start"
+            now=$(took "$program" "$1 $2 $3")
+            echo "$now" >>"$room/$program.all"
+        done
+        { cmp -s "$room/ours" "$room/baseline" && cmp -s "$room/ours" "$room/tables"; } || { echo "the programs do not agree at $1 $2 $3" >&2; exit 1; }
+    done
+    printf '\r%60s\r' '' >&2
+    for program in $programs; do
+        echo "$(sort -n "$room/$program.all" | head -n 1) $(sort -n "$room/$program.start" | head -n 1) $3" | awk '{ printf "%.1f ", ($1 - $2) / $3 }'
+    done
+}
+
+# LABEL WHAT M COUNT
+row() {
+    label=$1
+    read -r mine plain table < <(least "$2" "$3" "$4"; echo)
+    awk -v l="$label" -v o="$mine" -v b="$plain" -v t="$table" 'BEGIN { printf "%-28s %12.3f %12.3f %12.3f %10.2f %10.2f\n", l, o / 1000, b / 1000, t / 1000, o / b, o / t }'
+}
 
 printf '%s, %s\n' "$(uname -m)" "$(sed -n 's/^model name[^:]*: //p; s/^CPU part[^:]*: /CPU part /p' /proc/cpuinfo | head -n 1)"
-printf '%8s %18s %18s %8s\n' octets 'proved, ns/octet' 'second, ns/octet' ratio
-for line in '1520 20000' '65536 464'; do
-    read -r m count <<<"$line"
-    proved=$(least on_line "$m" "$count")
-    said=$(cat "$room/said")
-    plain=$(least second "$m" "$count")
-    [ "$said" = "$(cat "$room/said")" ] || { echo "the two programs do not agree at $m" >&2; exit 1; }
-    awk -v m="$m" -v c="$count" -v p="$proved" -v s="$plain" 'BEGIN { printf "%8d %18.2f %18.2f %8.2f\n", m, p / (m * c), s / (m * c), p / s }'
+printf '%-28s %12s %12s %12s %10s %10s\n' 'microseconds a call' ours baseline tables ours/base ours/table
+if [ "${1:-}" = lengths ]; then
+    for line in '8 40000' '32 40000' '128 20000' '512 8000' '1520 4000' '4096 1500' '16384 400' '32768 200' '65536 100'; do
+        row "GEA4, ${line% *} octets" 0 "${line% *}" "${line#* }"
+    done
+    exit
+fi
+row 'KASUMI, one block' 2 0 100000
+row 'A5/4 for GSM, one call' 1 0 40000
+row 'GEA4, 20 octets' 0 20 40000
+row 'GEA4, 1,520 octets' 0 1520 4000
+row 'GEA4, 65,536 octets' 0 65536 100
+row 'seal, 1,520 octets' 3 1520 4000
+row 'open, 1,520 octets' 4 1520 4001
+
+# What sealing and opening take beside GEA4 alone is little, so these three take turns too.
+for what in 0 3 4; do : >"$room/$what.all"; done
+for round in $(seq $rounds); do
+    printf '\rGEA4, seal and open in turn, round %s of %s   ' "$round" "$rounds" >&2
+    for what in 0 3 4; do now=$(took ours "$what 1520 8000"); echo "$now" >>"$room/$what.all"; done
 done
+printf '\r%60s\r' '' >&2
+for what in 0 3 4; do sort -n "$room/$what.all" | head -n 1; done | xargs | awk '{ printf "in turn: sealing takes %.2f and opening %.2f of GEA4 alone\n", $2 / $1, $3 / $1 }'

@@ -43,7 +43,8 @@ second huge call       an input for `call` with lines of a megabyte
 second huge walk       an input for `walk` with lines of a megabyte, up to the last number
 second huge demo       an input for `demo` with lines of a megabyte
 second vectors DIR     a call and its answer for every set of DIR
-second benchmark M COUNT   the exclusive or of COUNT outputs of GEA4, M octets each";
+second benchmark WHAT M COUNT   the expected output of `benchmark` for that line, by tables
+second baseline WHAT M COUNT    the same, with the equations of S9 at each look-up";
 
 fn main() -> ExitCode {
     let arguments: Vec<String> = env::args().skip(1).collect();
@@ -74,16 +75,25 @@ fn output(words: &[&str]) -> Result<Vec<u8>, String> {
         ["huge", "walk"] => Ok(cases::huge::walk()),
         ["huge", "demo"] => Ok(cases::huge::demo()),
         ["vectors", folder] => Ok(check::report(Path::new(folder))?.into()),
-        ["benchmark", m, count] => benchmark(m, count),
+        ["benchmark", what, m, count] => benchmark(&fast::Tables::of_equations(), what, m, count),
+        ["baseline", what, m, count] => {
+            benchmark(&fast::Equations::with_table_of_s7(), what, m, count)
+        }
         _ => Err(USAGE.to_string()),
     }
 }
 
-fn benchmark(m: &str, count: &str) -> Result<Vec<u8>, String> {
-    let m = m.parse().ok().filter(|m| (1..=65_536).contains(m));
-    let m = m.ok_or("M is a number from 1 to 65536")?;
+fn benchmark<B: fast::Boxes>(
+    boxes: &B,
+    what: &str,
+    m: &str,
+    count: &str,
+) -> Result<Vec<u8>, String> {
+    let what = fast::What::of(what).ok_or("WHAT is a number from 0 to 4")?;
+    let m = m.parse().ok().filter(|m| (0..=65_536).contains(m));
+    let m = m.ok_or("M is a number from 0 to 65536")?;
     let count = count.parse().map_err(|_| "COUNT is a number of 32 bits")?;
-    Ok(format!("{:02X}\n", fast::benchmark(m, count)).into())
+    Ok(format!("{:02X}\n", fast::benchmark(boxes, what, m, count)).into())
 }
 
 fn input() -> Result<Vec<u8>, String> {

@@ -1,10 +1,13 @@
-// Computes much GEA4, to be timed: reads M and COUNT, and makes COUNT outputs of M octets under the key 00 01 .. 0F with INPUT 0, 1, 2, ..
-// It writes the exclusive or of all octets, so that none can be left out.
+// Makes one call many times, to be timed: reads WHAT, M and COUNT, and makes COUNT calls under the key 00 01 .. 0F with the numbers 0, 1, 2, .. WHAT is
+// 0 for GEA4 of M octets, 1 for A5/4 of GSM, 2 for a block of KASUMI, 3 for sealing and 4 for opening a frame with a payload of M octets; M says nothing
+// of 1 and 2. It writes the exclusive or of all octets that were handed out, so that none can be left out.
 ghost use mathlib.Core.Path.{_≡_};
 ghost use Prim.Native.Nat.{_≤_};
 ghost use lib.ListN.{length};
+use frames::Header;
 use libc::STDIN_FILENO;
 use libc::STDOUT_FILENO;
+use sender::Sender;
 
 // The exclusive or of octets, and of what came before them.
 fn sum_of(octets: &[u8], before: u8) -> u8 {
@@ -17,19 +20,103 @@ fn sum_of(octets: &[u8], before: u8) -> u8 {
     sum
 }
 
-// One output, and its sum.
-fn one(key: &[u8], input: u32, output: &mut [u8], m: u32, before: u8) -> u8 {
-    keystreams::gea4(key, input, 0, m, output);
+// The offset, the service and the direction of the link.
+const IOV: u32 = 0x0123_4567;
+
+const SAPI: u8 = 3;
+
+const DIRECTION: u8 = 0;
+
+fn gea4(key: &[u8], number: u32, m: u32, output: &mut [u8], before: u8) -> u8 {
+    keystreams::gea4(key, number, 0, m, output);
     sum_of(output, before)
 }
 
-fn many(output: &mut [u8], m: u32, count: u32) -> u8 {
+fn gsm(key: &[u8], number: u32, before: u8) -> u8 {
+    let mut block1 = [0u8; 15];
+    let mut block2 = [0u8; 15];
+    keystreams::gsm(key, number % 4_194_304, &mut block1, &mut block2);
+    sum_of(&block2, sum_of(&block1, before))
+}
+
+fn block(key: &[u8], number: u32, before: u8) -> u8 {
+    let ciphered = kasumi::kasumi(key, number as u64);
+    before ^ (ciphered.block % 256) as u8
+}
+
+// A sender whose next frame has this number.
+fn sender_at(key: &[u8], number: u32) -> Sender {
+    let opened = link::open_link(key, IOV, SAPI, DIRECTION);
+    let link = opened.link;
+    Sender { link, next: number }
+}
+
+// The frame with a payload of zeros.
+fn seal(key: &[u8], number: u32, payload: &[u8], output: &mut [u8], before: u8) -> u8 {
+    sender::seal(sender_at(key, number), payload, output);
+    sum_of(output, before)
+}
+
+// A frame of number 0 as it comes in: nothing tells its octets from a sender's.
+fn open(key: &[u8], payload: usize, frame: &mut [u8], output: &mut [u8], before: u8) -> u8 {
+    let header = Header {
+        sapi: SAPI,
+        direction: DIRECTION,
+        sent: 0,
+    };
+    frames::put_header(header, payload, frame);
+    let opened = receiver::open_receiver(key, IOV, SAPI, DIRECTION);
+    receiver::open(opened.receiver, frame, output);
+    sum_of(output, before)
+}
+
+// Room for the octets of the longest frame.
+fn frame() -> [u8; 1526]
+    ensures { λ r. ⌜ 1526 ≡ length r ⌝ }
+{
+    [0; 1526]
+}
+
+// A frame sealed or opened.
+fn framed(seals: bool, key: &[u8], number: u32, m: usize, output: &mut [u8], before: u8) -> u8
+    requires { ⌜ m ≤ 1520 ⌝ }
+{
+    let mut octets = frame();
+    let end = m + 6;
+    if seals {
+        return seal(key, number, &octets[..m], output, before);
+    }
+    open(key, m, &mut octets[..end], output, before)
+}
+
+// One call, and its sum.
+fn one(what: u64, key: &[u8], number: u32, m: usize, output: &mut [u8], before: u8) -> u8
+    requires { ⌜ m ≤ 65536 ⌝ }
+{
+    if what == 0 {
+        return gea4(key, number, m as u32, output, before);
+    }
+    if what == 1 {
+        return gsm(key, number, before);
+    }
+    if what == 2 {
+        return block(key, number, before);
+    }
+    if 1520 < m {
+        return before;
+    }
+    framed(what == 3, key, number, m, output, before)
+}
+
+fn many(what: u64, m: usize, count: u32, output: &mut [u8]) -> u8
+    requires { ⌜ m ≤ 65536 ⌝ }
+{
     let key = [0u8, 1, 2, 3, 4, 5, 6, 7, 8, 9, 10, 11, 12, 13, 14, 15];
     let mut sum = 0;
-    let mut input = 0;
-    while input < count {
-        sum = one(&key, input, output, m, sum);
-        input += 1;
+    let mut number = 0;
+    while number < count {
+        sum = one(what, &key, number, m, output, sum);
+        number += 1;
     }
     sum
 }
@@ -63,18 +150,22 @@ fn after(text: &[u8], octet: u8) -> &[u8] {
     text
 }
 
-fn space() -> [u8; 65536]
-    ensures { λ r. ⌜ 65536 ≡ length r ⌝ }
+// Room for the longest output, and the six octets more of a frame.
+fn space() -> [u8; 65542]
+    ensures { λ r. ⌜ 65542 ≡ length r ⌝ }
 {
-    [0; 65536]
+    [0; 65542]
 }
 
-// A line M COUNT.
+// A line WHAT M COUNT.
 fn answer(line: &[u8]) {
-    let m = number_before(line, b' ', 65536) as usize;
-    let count = number_before(after(line, b' '), b'\n', 0xFFFF_FFFF) as u32;
+    let what = number_before(line, b' ', 4);
+    let rest = after(line, b' ');
+    let m = number_before(rest, b' ', 65536) as usize;
+    let count = number_before(after(rest, b' '), b'\n', 0xFFFF_FFFF) as u32;
     let mut output = space();
-    let sum = many(&mut output[..m], m as u32, count);
+    let end = m + 6;
+    let sum = many(what, m, count, &mut output[..end]);
     told(sum);
 }
 

@@ -1,4 +1,4 @@
--- `benchmark::answer` is safe: M octets lie within the space.
+-- `benchmark::answer` is safe: M octets and six more lie within the space.
 -- Assumes nothing.
 use borrow.Author.Needs.{needs}
 use native.Mathlib.Omega.{arith}
@@ -15,20 +15,26 @@ after-requires c κs = search needs
 number-before-requires-2 : tie.Need-number-before-requires-2
 number-before-requires-2 c κs = search needs
 
+after-requires-2 : tie.Need-after-requires-2
+after-requires-2 c κs = search needs
+
+number-before-requires-3 : tie.Need-number-before-requires-3
+number-before-requires-3 c κs = search needs
+
 cast-count : tie.Need-cast-count
 cast-count c = search needs
 
 space-requires : tie.Need-space-requires
 space-requires c κs = search needs
 
+add-end : tie.Need-add-end
+add-end c = search needs
+
 array-borrow-prefix-output : tie.Need-array-borrow-prefix-output
 array-borrow-prefix-output c = search needs
 
 slice-aggregate-many : tie.Need-slice-aggregate-many
 slice-aggregate-many c = front _ _ (omega arith)
-
-cast-many : tie.Need-cast-many
-cast-many c = search needs
 
 many-requires : tie.Need-many-requires
 many-requires c κs = search needs
@@ -46,11 +52,13 @@ answer-spec =
     number-before-requires
     after-requires
     number-before-requires-2
+    after-requires-2
+    number-before-requires-3
     cast-count
     space-requires
+    add-end
     array-borrow-prefix-output
     slice-aggregate-many
-    cast-many
     many-requires
     told-requires
     returns)

@@ -1,7 +1,7 @@
 -- `benchmark::many` is safe and ends: the output keeps its length from call to call.
 -- Assumes nothing.
-use Prim.Native.Nat.{_-_, _≤_}
 use borrow.Author.Needs.{needs}
+use Prim.Native.Nat.{_-_, _≤_}
 use lib.ListN.{length}
 use mathlib.Core.Path.{_≡_, refl}
 use native.Mathlib.Omega.{arith}
@@ -9,10 +9,10 @@ use Rattle.benchmark.proofs.many.Statement.{statement}
 use Rattle.benchmark.proofs.many.Tie as tie
 
 abbrev Inv-loop : tie.InvT-loop
-Inv-loop output₀ m count key sum₀ input₀ output sum input = (input ≤ count) × (length output ≡ length output₀)
+Inv-loop what m count output₀ key sum₀ number₀ output sum number = (number ≤ count) × (length output ≡ length output₀)
 
 abbrev μ-loop : tie.MeasureT-loop
-μ-loop output₀ m count key sum₀ input₀ output sum input = count - input
+μ-loop what m count output₀ key sum₀ number₀ output sum number = count - number
 
 loop-holds : tie.Need-loop-holds Inv-loop μ-loop
 loop-holds c = (omega arith, refl)
@@ -23,8 +23,8 @@ slice-aggregate-one c = search needs
 one-requires : tie.Need-one-requires Inv-loop μ-loop
 one-requires c κs = search needs
 
-add-input : tie.Need-add-input Inv-loop μ-loop
-add-input c = search needs
+add-number : tie.Need-add-number Inv-loop μ-loop
+add-number c = search needs
 
 loop-less : tie.Need-loop-less Inv-loop μ-loop
 loop-less c = search needs
@@ -47,7 +47,7 @@ many-spec =
     loop-holds
     slice-aggregate-one
     one-requires
-    add-input
+    add-number
     loop-less
     loop-again
     same-length
