@@ -1,6 +1,6 @@
 -- The definitions over bits that are held as words and halves: a half of two joined numbers, a step of FO, a round.
 -- Assumes nothing.
-use Prim.Native.Nat.{ℕ, _*_, _+_, _/_, _%_, _^_, _<_}
+use Prim.Native.Nat.{ℕ, _%_, _^_, _<_}
 use native.Mathlib.Omega.{arith}
 use mathlib.Core.Path.{_≡_, sym, ap, ap₂, _∙_}
 use borrow.Author.Tests.{eq-eqb, ne-eqb}

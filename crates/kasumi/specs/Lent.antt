@@ -1,5 +1,6 @@
--- What is prepared once for many blocks and lent to each: a table for FI, and the keys of all rounds. `kasumi::cipher_block` takes any table and any keys;
--- with the two that are handed out for it, it is KASUMI (kasumi/proofs/Lent.antt#ciphered-kasumi). Assumes nothing.
+-- What is prepared once for many blocks and lent to each: a table for FI, and the keys of all rounds. `kasumi::cipher_block`
+-- takes any table and any keys; with those that are handed out for it, it is KASUMI (kasumi/proofs/Lent.antt#ciphered-kasumi).
+-- Assumes nothing.
 use Prim.Native.Nat.{ℕ, zero, suc, _+_, _-_, _*_}
 use mathlib.Core.List.{List, [], _∷_, _++_}
 use lib.Bits.{bitXor}
@@ -10,8 +11,8 @@ use Rattle.kasumi.specs.declared.schedule.Keys.{Keys}
 
 -- ---- FI
 
--- half of FI by a table: the entry of the nine bits on the left xor the entry of the seven on the right. With the table that is handed out for it, of a and b it makes c
--- (nine bits) and S7 of b xor c (seven), and, once these have met the key, g and h
+-- half of FI by a table: the entry of the nine bits on the left xor the entry of the seven on the right. With the table that
+-- is handed out for it, a and b become c (nine bits) and S7[b] xor c (seven); once these have met the key, they become g and h
 abbrev pub half : List ℕ → ℕ → ℕ
 half table x = bitXor (getD table (left 7 x) 0) (getD table (512 + right 7 x) 0)
 

@@ -1,6 +1,6 @@
 -- How the table of S9 doubles: an entry with two bits at the top from three with fewer, and the front of a table that grows entry by entry.
 -- Assumes nothing.
-use Prim.Native.Nat.{ℕ, zero, suc, _+_, _*_, _^_, _<_, _≤_}
+use Prim.Native.Nat.{ℕ, zero, suc, _+_, _^_, _<_, _≤_}
 use native.Mathlib.Nat.{pow-suc, eq-or-lt-of-le, le-of-suc-le-suc, not-suc-le-zero}
 use native.Mathlib.Numerals.{add-one}
 use native.Mathlib.Omega.{arith}
@@ -10,7 +10,7 @@ use mathlib.Core.Logic.{⊎-elim}
 use mathlib.Core.Path.{_≡_, sym, ap, subst, _∙_}
 use lib.Bits.{bitXor}
 use lib.Dec.{T, eqb, eqb→eq}
-use lib.ListN.{length, getD, set, take, length-set}
+use lib.ListN.{getD, set, length-set}
 use lib.Pow.{pow-mono}
 use lib.Seq.{getD-take, take-suc-set}
 use Rattle.refusals.proofs.Tests.{and-left, and-right}

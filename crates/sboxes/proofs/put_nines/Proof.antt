@@ -1,7 +1,7 @@
 -- `sboxes::put_nines` meets its contract. The invariant of its loop: the entries up to 2^k stand at the front. The measure is what is left of the rows.
 -- Assumes nothing.
 use borrow.Author.Needs.{needs}
-use Prim.Native.Nat.{ℕ, _+_, _-_, _^_, _≤_}
+use Prim.Native.Nat.{ℕ, _-_, _^_, _≤_}
 use mathlib.Core.Path.{refl, ap}
 use native.Mathlib.Omega.{arith}
 use denote.Ref.{now}

@@ -3,7 +3,6 @@
 use borrow.Author.Needs.{needs}
 use Prim.Native.Nat.{ℕ, _+_, _-_, _≤_}
 use native.Mathlib.Omega.{arith}
-use denote.Ref.{now}
 use lib.Pow.{pow-pos}
 use Rattle.sboxes.specs.FiTable.{Filled}
 use Rattle.sboxes.proofs.Doubling.{low-fits, high-fits, one-more, counted, next-entry}

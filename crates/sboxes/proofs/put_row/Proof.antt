@@ -2,11 +2,11 @@
 -- Assumes nothing.
 use borrow.Author.Needs.{needs}
 use Prim.Native.Nat.{ℕ, _+_, _-_, _^_, _≤_}
-use mathlib.Core.Path.{ap, _∙_}
+use mathlib.Core.Path.{ap}
 use native.Mathlib.Omega.{arith}
 use native.Mathlib.Nat.{pow-zero}
 use lib.Pow.{pow-pos}
-use Rattle.sboxes.specs.FiTable.{entryOfNine, Filled}
+use Rattle.sboxes.specs.FiTable.{Filled}
 use Rattle.sboxes.proofs.Doubling.{high-fits, twice, one-more, counted}
 use Rattle.sboxes.proofs.put_row.Statement.{statement}
 use Rattle.sboxes.proofs.put_row.Tie as tie
