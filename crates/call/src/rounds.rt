@@ -33,7 +33,7 @@ fn octet_at(words: &[u16], i: usize) -> u8 {
     }
 }
 
-// Word i of octets, 0 past their end.
+// Word i of octets, 0 past their end; a field has at most 1,024 words.
 fn word_at(octets: &[u8], i: usize) -> u16 {
     if 1024 <= i {
         return 0;
