@@ -1,9 +1,11 @@
 //! KASUMI and what stands on it the ordinary way, to measure the product against: numbers in place
 //! of bit lists, the round keys prepared once a key, S7 a table. S9 is a table too, or its gate
 //! equations at each look-up, which is the club's baseline (document 02, item 9).
-//! Follows 3GPP TS 35.202, source document 004, clauses 4, 6 and 7, and document 01, "The link".
+//! Follows 3GPP TS 35.202, source document 004, clauses 4, 6 and 7 and annex A, 3GPP TS 35.201 (f9),
+//! and document 01, "The link".
 
 use crate::gates::{S7, S9};
+use crate::product::pair::{F8Inputs, F9Inputs};
 
 const C: [u16; 8] = [0x0123, 0x4567, 0x89AB, 0xCDEF, 0xFEDC, 0xBA98, 0x7654, 0x3210];
 
@@ -239,14 +241,25 @@ fn joined(left: u16, right: u16) -> u32 {
     u32::from(left) << 16 | u32::from(right)
 }
 
-/// The first M octets of KGCORE for a first register, under a key.
-fn kgcore<B: Boxes>(boxes: &B, key: &[u8; 16], register: u64, m: usize) -> Vec<u8> {
+/// The blocks of KGCORE for a first register, under a key.
+fn blocks<'boxes, B: Boxes>(
+    boxes: &'boxes B,
+    key: &[u8; 16],
+    register: u64,
+) -> impl Iterator<Item = u64> + 'boxes {
     let a = Kasumi::new(boxes, &key.map(|octet| octet ^ 0x55)).cipher(register);
     let kasumi = Kasumi::new(boxes, key);
-    let mut output = Vec::with_capacity(m + 8);
     let mut block = 0;
-    for counter in 0..m.div_ceil(8) as u64 {
+    (0..).map(move |counter| {
         block = kasumi.cipher(a ^ counter ^ block);
+        block
+    })
+}
+
+/// The first M octets of KGCORE for a first register, under a key.
+fn kgcore<B: Boxes>(boxes: &B, key: &[u8; 16], register: u64, m: usize) -> Vec<u8> {
+    let mut output = Vec::with_capacity(m + 8);
+    for block in blocks(boxes, key, register).take(m.div_ceil(8)) {
         output.extend_from_slice(&block.to_be_bytes());
     }
     output.truncate(m);
@@ -272,6 +285,62 @@ pub fn gsm<B: Boxes>(boxes: &B, key: &[u8; 16], count: u32) -> [[u8; 15]; 2] {
     [block1, block2]
 }
 
+/// The first `bits` bits of a message enciphered, in as many octets as hold them.
+pub fn f8<B: Boxes>(
+    boxes: &B,
+    key: &[u8; 16],
+    inputs: F8Inputs,
+    message: &[u8],
+    bits: usize,
+) -> Vec<u8> {
+    let F8Inputs { count, bearer, direction } = inputs;
+    let register = u64::from(count) << 32 | u64::from(bearer) << 27 | u64::from(direction) << 26;
+    let mut output = message[..bits.div_ceil(8)].to_vec();
+    for (octets, block) in output.chunks_mut(8).zip(blocks(boxes, key, register)) {
+        for (octet, key_octet) in octets.iter_mut().zip(block.to_be_bytes()) {
+            *octet ^= key_octet;
+        }
+    }
+    let spare = 8 * output.len() - bits;
+    if let Some(last) = output.last_mut() {
+        *last &= 0xFF << spare;
+    }
+    output
+}
+
+/// The code of the first `bits` bits of a message.
+pub fn f9<B: Boxes>(
+    boxes: &B,
+    key: &[u8; 16],
+    inputs: F9Inputs,
+    message: &[u8],
+    bits: usize,
+) -> u32 {
+    let F9Inputs { count, fresh, direction } = inputs;
+    let kasumi = Kasumi::new(boxes, key);
+    let (mut a, mut b) = (0, 0);
+    let mut take = |block: u64| {
+        a = kasumi.cipher(a ^ block);
+        b ^= a;
+    };
+    take(u64::from(count) << 32 | u64::from(fresh));
+    let (whole, rest) = message[..bits.div_ceil(8)].split_at(bits / 64 * 8);
+    for octets in whole.chunks_exact(8) {
+        take(u64::from_be_bytes(octets.try_into().expect("a chunk has eight octets")));
+    }
+    // The bits that are left, DIRECTION and a 1; after 63 bits the 1 begins a block of its own.
+    let left = bits % 64;
+    let mut octets = [0; 8];
+    octets[..rest.len()].copy_from_slice(rest);
+    let kept = u64::from_be_bytes(octets) & !(u64::MAX >> left);
+    let ending = u128::from(kept) << 64 | u128::from(direction << 1 | 1) << (126 - left);
+    take((ending >> 64) as u64);
+    if left == 63 {
+        take(ending as u64);
+    }
+    (Kasumi::new(boxes, &key.map(|octet| octet ^ 0xAA)).cipher(b) >> 32) as u32
+}
+
 /// What the program `benchmark` does over and over.
 #[derive(Clone, Copy)]
 pub enum What {
@@ -280,12 +349,14 @@ pub enum What {
     Block,
     Seal,
     Open,
+    F8,
+    F9,
 }
 
 impl What {
     /// By its number in a line of `benchmark`.
     pub fn of(number: &str) -> Option<What> {
-        let all = [What::Gea4, What::Gsm, What::Block, What::Seal, What::Open];
+        let all = [What::Gea4, What::Gsm, What::Block, What::Seal, What::Open, What::F8, What::F9];
         all.get(number.parse::<usize>().ok()?).copied()
     }
 }
@@ -298,8 +369,21 @@ fn input_of(number: u32) -> u32 {
     (IOV ^ (SAPI << 27) + (1 << 31)).wrapping_add(number)
 }
 
-/// One call with a number: the octets that it hands out. Payloads are zeros.
-fn one<B: Boxes>(boxes: &B, what: What, key: &[u8; 16], number: u32, m: usize) -> Vec<u8> {
+/// The octets that hold M bits, of a message in which octet i is i modulo 256.
+fn message_of(m: usize) -> Vec<u8> {
+    (0..m.div_ceil(8)).map(|place| place as u8).collect()
+}
+
+/// One call with a number: the octets that it hands out. Payloads are zeros; the message is that of
+/// f8 and f9.
+fn one<B: Boxes>(
+    boxes: &B,
+    what: What,
+    key: &[u8; 16],
+    number: u32,
+    m: usize,
+    message: &[u8],
+) -> Vec<u8> {
     let stream = |input| gea4(boxes, key, input, false, m);
     match what {
         What::Gea4 => stream(number),
@@ -312,14 +396,24 @@ fn one<B: Boxes>(boxes: &B, what: What, key: &[u8; 16], number: u32, m: usize) -
             [header.concat(), stream(input_of(number))].concat()
         }
         What::Open => stream(input_of(0)),
+        What::F8 | What::F9 if m == 0 || m > 20_000 => Vec::new(),
+        What::F8 => {
+            let inputs = F8Inputs { count: number, bearer: 0, direction: 0 };
+            f8(boxes, key, inputs, message, m)
+        }
+        What::F9 => {
+            let inputs = F9Inputs { count: number, fresh: 0, direction: 0 };
+            f9(boxes, key, inputs, message, m).to_be_bytes().to_vec()
+        }
     }
 }
 
 /// The exclusive or of all octets that COUNT calls hand out, so that none can be left out.
 pub fn benchmark<B: Boxes>(boxes: &B, what: What, m: usize, count: u32) -> u8 {
     let key = std::array::from_fn(|place| place as u8);
+    let message = message_of(m);
     (0..count)
-        .flat_map(|number| one(boxes, what, &key, number, m))
+        .flat_map(|number| one(boxes, what, &key, number, m, &message))
         .fold(0, |sum, octet| sum ^ octet)
 }
 
@@ -327,7 +421,9 @@ pub fn benchmark<B: Boxes>(boxes: &B, what: What, m: usize, count: u32) -> u8 {
 mod tests {
     use super::*;
     use crate::bits::{of_number, of_octets, to_octets};
+    use crate::product::pair;
     use crate::random::Random;
+    use crate::refusals::NONE;
     use crate::{kasumi, keystreams};
 
     #[test]
@@ -371,6 +467,64 @@ mod tests {
         }
     }
 
+    /// Calls of f8 and f9 over lengths around the ends of octets and of blocks, with any message.
+    fn each_length(call: impl Fn(&mut Random, &[u8; 16], &[u8], u32)) {
+        let mut random = Random::seeded(4);
+        for bits in (1..=200).chain([1_000, 12_160, 19_999, 20_000]) {
+            let key = std::array::from_fn(|_| random.octet());
+            let message: Vec<u8> = (0..bits / 8 + 3).map(|_| random.octet()).collect();
+            call(&mut random, &key, &message, bits);
+        }
+    }
+
+    #[test]
+    fn fast_f8_equals_the_plain_one() {
+        let (tables, equations) = (Tables::of_equations(), Equations::with_table_of_s7());
+        each_length(|random, key, message, bits| {
+            let (count, bearer) = (random.number() as u32, random.below(32) as u8);
+            let inputs = F8Inputs { count, bearer, direction: random.below(2) as u8 };
+            let mut plain = vec![0xAA; bits.div_ceil(8) as usize];
+            assert_eq!(pair::f8(inputs, key, message, bits, &mut plain), NONE);
+            assert_eq!(f8(&tables, key, inputs, message, bits as usize), plain);
+            assert_eq!(f8(&equations, key, inputs, message, bits as usize), plain);
+        });
+    }
+
+    #[test]
+    fn fast_f9_equals_the_plain_one() {
+        let (tables, equations) = (Tables::of_equations(), Equations::with_table_of_s7());
+        each_length(|random, key, message, bits| {
+            let (count, fresh) = (random.number() as u32, random.number() as u32);
+            let inputs = F9Inputs { count, fresh, direction: random.below(2) as u8 };
+            let plain = pair::f9(inputs, key, message, bits);
+            assert_eq!((NONE, f9(&tables, key, inputs, message, bits as usize)), plain);
+            assert_eq!((NONE, f9(&equations, key, inputs, message, bits as usize)), plain);
+        });
+    }
+
+    #[test]
+    fn f8_and_f9_of_the_benchmark_hand_out_what_the_lines_do() {
+        let tables = Tables::of_equations();
+        let key = crate::cases::KEY;
+        let handed_out = |line: String| {
+            let answer = crate::call::answer(line.as_bytes()).expect("a line of call");
+            match answer.split_once(' ').expect("a refusal and more") {
+                ("0", octets) => crate::lines::octets(octets.as_bytes()).expect("octets"),
+                _ => Vec::new(),
+            }
+        };
+        let sum = |octets: Vec<u8>| octets.into_iter().fold(0, |sum, octet| sum ^ octet);
+        for m in [0, 1, 7, 800, 2_061, 20_000, 20_001] {
+            let octets = crate::lines::hex(&message_of(m));
+            let message = if m == 0 { "-" } else { octets.as_str() };
+            let f8 =
+                |n| sum(handed_out(format!("f8 {key} {n} 0 0 {message} {m} {}", m.div_ceil(8))));
+            let f9 = |n| sum(handed_out(format!("f9 {key} {n} 0 0 {message} {m}")));
+            assert_eq!(benchmark(&tables, What::F8, m, 3), f8(0) ^ f8(1) ^ f8(2), "{m}");
+            assert_eq!(benchmark(&tables, What::F9, m, 3), f9(0) ^ f9(1) ^ f9(2), "{m}");
+        }
+    }
+
     #[test]
     fn what_is_sealed_and_opened_is_what_the_plain_ends_make() {
         let tables = Tables::of_equations();
@@ -380,11 +534,11 @@ mod tests {
         for (number, m) in [(0, 20), (1, 8), (511, 3), (512, 1), (70_000, 33)] {
             let payload = "00".repeat(m);
             let sealed = call(format!("seal {shown} {IOV} 3 0 {number} {payload} {}", m + 6));
-            let frame = one(&tables, What::Seal, &key, number, m);
+            let frame = one(&tables, What::Seal, &key, number, m, &[]);
             assert!(sealed.ends_with(&format!(" {}", crate::lines::hex(&frame))), "{sealed}");
             let header = format!("{:04X}0130 0000", m + 4).replace(' ', "");
             let opened = call(format!("open {shown} {IOV} 3 0 0 0 {header}{payload} {m}"));
-            let payload = one(&tables, What::Open, &key, number, m);
+            let payload = one(&tables, What::Open, &key, number, m, &[]);
             assert!(opened.ends_with(&format!(" {}", crate::lines::hex(&payload))), "{opened}");
         }
     }

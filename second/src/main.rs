@@ -14,6 +14,7 @@ mod kgcore;
 mod lent;
 mod lines;
 mod link;
+mod pair;
 mod product;
 mod random;
 mod refusals;
@@ -89,7 +90,7 @@ fn benchmark<B: fast::Boxes>(
     m: &str,
     count: &str,
 ) -> Result<Vec<u8>, String> {
-    let what = fast::What::of(what).ok_or("WHAT is a number from 0 to 4")?;
+    let what = fast::What::of(what).ok_or("WHAT is a number from 0 to 6")?;
     let m = m.parse().ok().filter(|m| (0..=65_536).contains(m));
     let m = m.ok_or("M is a number from 0 to 65536")?;
     let count = count.parse().map_err(|_| "COUNT is a number of 32 bits")?;

@@ -14,6 +14,8 @@ use std::str::FromStr;
 pub const KASUMI: &str = include_str!("../../vectors/kasumi.txt");
 pub const A5: &str = include_str!("../../vectors/a5.txt");
 pub const GEA: &str = include_str!("../../vectors/gea.txt");
+pub const F8: &str = include_str!("../../vectors/f8.txt");
+pub const F9: &str = include_str!("../../vectors/f9.txt");
 
 /// A call, and its answer where the set gives one.
 pub struct Published {
@@ -100,6 +102,10 @@ pub fn calls(file: &str) -> Result<Vec<Published>, String> {
             calls.extend(a5(&set)?);
         } else if set.has("m") {
             calls.extend(gea4(&set)?);
+        } else if set.has("bearer") {
+            calls.extend(f8(&set)?);
+        } else if set.has("fresh") {
+            calls.extend(f9(&set)?);
         } else {
             calls.extend(chain(&set)?);
             calls.extend(round_keys(&set)?);
@@ -181,6 +187,31 @@ fn gea4(set: &Set) -> Result<Vec<Published>, String> {
     Ok(set.both_keys()?.into_iter().map(published).collect())
 }
 
+/// A set of f8 is two calls, there and back: the spare bits of its message are zero, as are those
+/// of its output.
+fn f8(set: &Set) -> Result<[Published; 2], String> {
+    let (key, count, bearer) = (set.value("key")?, set.value("count")?, set.value("bearer")?);
+    let (direction, bits) = (set.value("direction")?, set.decimal::<usize>("bits")?);
+    let (message, output) = (set.value("message")?, set.value("output")?);
+    let room = bits.div_ceil(8);
+    let published = |from: &str, to: &str| Published {
+        call: format!("f8 {key} 0x{count} 0x{bearer} {direction} {from} {bits} {room}"),
+        answer: Some(format!("0 {to}")),
+    };
+    Ok([published(message, output), published(output, message)])
+}
+
+/// A set of f9 is two calls: the code made, and the code checked.
+fn f9(set: &Set) -> Result<[Published; 2], String> {
+    let (key, count, fresh) = (set.value("key")?, set.value("count")?, set.value("fresh")?);
+    let (direction, bits) = (set.value("direction")?, set.decimal::<usize>("bits")?);
+    let (message, code) = (set.value("message")?, set.value("code")?);
+    let fields = format!("{key} 0x{count} 0x{fresh} {direction} {message} {bits}");
+    let made = Published { call: format!("f9 {fields}"), answer: Some(format!("0 {code}")) };
+    let call = format!("check_code {fields} 0x{code}");
+    Ok([made, Published { call, answer: Some("0 1".to_string()) }])
+}
+
 /// A set of KASUMI, with `times` a chain of calls. Only the answer to the last call is
 /// published; the inputs on the way are this program's own.
 fn chain(set: &Set) -> Result<Vec<Published>, String> {
@@ -224,5 +255,26 @@ mod tests {
 
         let answers = calls(KASUMI).unwrap().into_iter().map(|published| published.answer);
         assert_eq!(answers.filter(Option::is_none).count(), 49);
+    }
+
+    #[test]
+    fn a_set_of_f8_goes_there_and_back_and_one_of_f9_is_made_and_checked() {
+        let pairs = |file: &str| -> Vec<(String, String)> {
+            let calls = calls(file).unwrap().into_iter();
+            calls.map(|published| (published.call, published.answer.unwrap())).collect()
+        };
+        let expected = |lines: [(&str, &str); 2]| {
+            lines.map(|(call, answer)| (call.to_string(), answer.to_string())).to_vec()
+        };
+        let f8 = "key = 00\ncount = 01\nbearer = 1F\ndirection = 1\nbits = 9\nmessage = AB80\n";
+        let both =
+            [("f8 00 0x01 0x1F 1 AB80 9 2", "0 CD00"), ("f8 00 0x01 0x1F 1 CD00 9 2", "0 AB80")];
+        assert_eq!(pairs(&format!("{f8}output = CD00")), expected(both));
+        let f9 = "key = 00\ncount = 01\nfresh = 02\ndirection = 0\nbits = 9\nmessage = AB80\n";
+        let both = [
+            ("f9 00 0x01 0x02 0 AB80 9", "0 EF"),
+            ("check_code 00 0x01 0x02 0 AB80 9 0xEF", "0 1"),
+        ];
+        assert_eq!(pairs(&format!("{f9}code = EF")), expected(both));
     }
 }

@@ -1,12 +1,14 @@
 // Makes one call many times, to be timed: reads WHAT, M and COUNT, and makes COUNT calls under the key 00 01 .. 0F with the numbers 0, 1, 2, .. WHAT is
-// 0 for GEA4 of M octets, 1 for A5/4 of GSM, 2 for a block of KASUMI, 3 for sealing and 4 for opening a frame with a payload of M octets; M says nothing
-// of 1 and 2. It writes the exclusive or of all octets that were handed out, so that none can be left out.
+// 0 for GEA4 of M octets, 1 for A5/4 of GSM, 2 for a block of KASUMI, 3 for sealing and 4 for opening a frame with a payload of M octets, 5 for f8 and 6
+// for f9 of a message of M bits; M says nothing of 1 and 2. It writes the exclusive or of all octets that were handed out, so that none can be left out.
 ghost use mathlib.Core.Path.{_≡_};
 ghost use Prim.Native.Nat.{_≤_};
 ghost use lib.ListN.{length};
 use frames::Header;
 use libc::STDIN_FILENO;
 use libc::STDOUT_FILENO;
+use pair::F8Inputs;
+use pair::F9Inputs;
 use sender::Sender;
 
 // The exclusive or of octets, and of what came before them.
@@ -89,8 +91,54 @@ fn framed(seals: bool, key: &[u8], number: u32, m: usize, output: &mut [u8], bef
     open(key, m, &mut octets[..end], output, before)
 }
 
+// The longest message of f8 and f9: octet i is i, modulo 256.
+fn message() -> [u8; 2500] {
+    let mut octets = [0; 2500];
+    let mut i = 0;
+    while i < 2500 {
+        octets[i] = (i % 256) as u8;
+        i += 1;
+    }
+    octets
+}
+
+fn f8(key: &[u8], number: u32, message: &[u8], bits: u32, output: &mut [u8], before: u8) -> u8 {
+    let size = octets::size(bits);
+    if output.len() < size {
+        return before;
+    }
+    let inputs = F8Inputs {
+        count: number,
+        bearer: 0,
+        direction: 0,
+    };
+    pair::f8(inputs, key, message, bits, &mut output[..size]);
+    sum_of(&output[..size], before)
+}
+
+fn f9(key: &[u8], number: u32, message: &[u8], bits: u32, before: u8) -> u8 {
+    let inputs = F9Inputs {
+        count: number,
+        fresh: 0,
+        direction: 0,
+    };
+    let answer = pair::f9(inputs, key, message, bits);
+    let code = answer.code;
+    let high = code / 65536;
+    let low = code % 65536;
+    before ^ (high / 256) as u8 ^ (high % 256) as u8 ^ (low / 256) as u8 ^ (low % 256) as u8
+}
+
 // One call, and its sum.
-fn one(what: u64, key: &[u8], number: u32, m: usize, output: &mut [u8], before: u8) -> u8
+fn one(
+    what: u64,
+    key: &[u8],
+    number: u32,
+    m: usize,
+    message: &[u8],
+    output: &mut [u8],
+    before: u8,
+) -> u8
     requires { ⌜ m ≤ 65536 ⌝ }
 {
     if what == 0 {
@@ -102,6 +150,12 @@ fn one(what: u64, key: &[u8], number: u32, m: usize, output: &mut [u8], before: 
     if what == 2 {
         return block(key, number, before);
     }
+    if what == 5 {
+        return f8(key, number, message, m as u32, output, before);
+    }
+    if what == 6 {
+        return f9(key, number, message, m as u32, before);
+    }
     if 1520 < m {
         return before;
     }
@@ -112,10 +166,11 @@ fn many(what: u64, m: usize, count: u32, output: &mut [u8]) -> u8
     requires { ⌜ m ≤ 65536 ⌝ }
 {
     let key = [0u8, 1, 2, 3, 4, 5, 6, 7, 8, 9, 10, 11, 12, 13, 14, 15];
+    let message = message();
     let mut sum = 0;
     let mut number = 0;
     while number < count {
-        sum = one(what, &key, number, m, output, sum);
+        sum = one(what, &key, number, m, &message, output, sum);
         number += 1;
     }
     sum
@@ -159,7 +214,7 @@ fn space() -> [u8; 65542]
 
 // A line WHAT M COUNT.
 fn answer(line: &[u8]) {
-    let what = number_before(line, b' ', 4);
+    let what = number_before(line, b' ', 6);
     let rest = after(line, b' ');
     let m = number_before(rest, b' ', 65536) as usize;
     let count = number_before(after(rest, b' '), b'\n', 0xFFFF_FFFF) as u32;

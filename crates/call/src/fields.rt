@@ -52,7 +52,7 @@ pub(crate) struct LastField {
 // Octets, of which `count` are meant. Who reads them lends `&octets[..count]` to another function, which makes the call: there the prover knows them
 // as any octets.
 pub(crate) struct OctetsField {
-    pub octets: [u8; 2048],
+    pub octets: [u8; 2560],
     pub count: usize,
     pub next: Cursor,
 }
@@ -224,7 +224,7 @@ pub(crate) fn octets(line: &[u8], cursor: Cursor) -> OctetsField
     let end = span.end;
     let text = &line[start..end];
     let none = check::same(text, b"-");
-    let mut octets = [0u8; 2048];
+    let mut octets = [0u8; 2560];
     let put = lines::octets_of_hex(text, &mut octets);
     let pairs = (put.refusal == 0) & (start < end);
     OctetsField {

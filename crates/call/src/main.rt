@@ -5,6 +5,7 @@ mod ends;
 mod fields;
 mod headers;
 mod links;
+mod messages;
 mod numbers;
 mod rounds;
 mod states;
@@ -20,6 +21,9 @@ fn answer(line: &[u8]) -> bool {
         return told;
     }
     if let Answer::Told(told) = rounds::answer(line, cursor) {
+        return told;
+    }
+    if let Answer::Told(told) = messages::answer(line, cursor) {
         return told;
     }
     if let Answer::Told(told) = bits::answer(line, cursor) {

@@ -33,9 +33,9 @@ fn octet_at(words: &[u16], i: usize) -> u8 {
     }
 }
 
-// Word i of octets, 0 past their end; a field has at most 1,024 words.
+// Word i of octets, 0 past their end; a field has at most 1,280 words.
 fn word_at(octets: &[u8], i: usize) -> u16 {
-    if 1024 <= i {
+    if 1280 <= i {
         return 0;
     }
     octets::octet_or_zero(octets, 2 * i) as u16 * 256

@@ -34,6 +34,12 @@ pub(crate) fn block(refusal: u8, block: u64) -> bool {
     part(refusal, &octets)
 }
 
+// A refusal and a code, which is eight hex digits.
+pub(crate) fn code(refusal: u8, code: u32) -> bool {
+    let octets = octets_of(code as u64);
+    part(refusal, &octets[4..])
+}
+
 // A block alone.
 pub(crate) fn block_alone(block: u64) -> bool {
     let octets = octets_of(block);

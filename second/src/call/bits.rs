@@ -79,7 +79,7 @@ fn cuts() -> Vec<String> {
         );
     }
     lines.push(cut("aAbBcCdDeEfF", 4, 40, 5));
-    lines.push(cut(&"C3".repeat(2048), 3, 16_381, 2050));
+    lines.push(cut(&"C3".repeat(2560), 3, 20_477, 2562));
     lines
 }
 
@@ -124,12 +124,13 @@ fn xors() -> Vec<String> {
     };
     let mut lines = Vec::new();
     for one in [0usize, 1, 2, 7, 8, 9, 16, 255] {
-        for other in [0, 1, 2, 7, 8, 9, 16, 255, 2_048] {
+        for other in [0, 1, 2, 7, 8, 9, 16, 255, 2_560] {
             let rooms = [one.saturating_sub(1), one, one + 1, one + 40];
             lines.extend(rooms.map(|room| xor(one, other, room)));
         }
     }
-    lines.extend([2_047, 2_048, 65_600].map(|room| xor(2_048, 2_000, room)));
+    lines.extend([2_559, 2_560, 65_600].map(|room| xor(2_560, 1_530, room)));
+    lines.extend([1_529, 1_530].map(|room| xor(1_530, 2_560, room)));
     lines.extend([1_999, 2_000].map(|room| xor(2_000, 2_048, room)));
     for bit in 0..8 {
         lines.push(format!("xor {:02X} FF 1", 1 << bit));

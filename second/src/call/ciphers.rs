@@ -172,7 +172,7 @@ fn refusals() -> Vec<String> {
 /// stand near each other are alike, so that it shows which stands where in the 16.
 fn keys() -> Vec<String> {
     let mut lines = Vec::new();
-    for octets in (0..=33).chain([2048]) {
+    for octets in (0..=33).chain([2560]) {
         let key = shown(&key_of(octets));
         lines.push(format!("prepare_key {key}"));
         lines.push(format!("kasumi {key} 0x0123456789ABCDEF"));

@@ -2,7 +2,7 @@
 
 use crate::lines::{based, hex, octets};
 
-const MOST_OCTETS: usize = 2048;
+const MOST_OCTETS: usize = 2560;
 const LARGEST_ROOM: usize = 65_600;
 
 /// What a lent octet holds before the call, so that a kept octet shows.

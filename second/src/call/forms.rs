@@ -12,7 +12,7 @@ const NO_NUMBERS: &str = " - -1 +1 1x x1 0x 0X1 00x1 0x0x1 1,0 1.0 1_0 A 0xG 0x-
 /// Lines between bars that are no call: nothing, names alone, other names.
 const NO_CALLS: &str = "| |  |\r|\t|?|-|0|call|stream|walk|walk 5|gea3|look_refusal 00050131001A55\
     |kasumi|cut|start |start  | start|start 0|start -|start\r|START|starts|star|look|look |look  \
-    |decimal 3132|silence|walks_start|bench_start";
+    |decimal 3132|silence|walks_start|bench_start|f8|f9|f8 |check_code|check|f";
 
 /// A form taken apart: the name, and the type of each field.
 struct Form {
@@ -105,7 +105,7 @@ impl Type {
     /// None, one and the most octets; the least and the largest number.
     fn ends(&self) -> Vec<String> {
         match self {
-            Type::Octets(_) => vec!["-".to_string(), "00".to_string(), "5a".repeat(2_048)],
+            Type::Octets(_) => vec!["-".to_string(), "00".to_string(), "5a".repeat(2_560)],
             Type::Exactly(count) => vec!["00".repeat(*count), "fF".repeat(*count)],
             Type::Size(largest) | Type::Number(largest) => {
                 vec!["0".to_string(), format!("0x{largest:x}")]
@@ -118,7 +118,7 @@ impl Type {
         match self {
             Type::Octets(_) => no_octets(),
             Type::Exactly(count) => {
-                let lengths = [1, 8, count - 1, count + 1, 2_048].map(|octets| "5A".repeat(octets));
+                let lengths = [1, 8, count - 1, count + 1, 2_560].map(|octets| "5A".repeat(octets));
                 [no_octets(), vec!["-".to_string()], lengths.to_vec()].concat()
             }
             Type::Size(largest) | Type::Number(largest) => {
@@ -133,7 +133,7 @@ impl Type {
 
 /// Fields that are no octets: half a pair, a letter beside hex, a sign, too many.
 fn no_octets() -> Vec<String> {
-    let too_many = "00".repeat(2_049);
+    let too_many = "00".repeat(2_561);
     let bad = ["", "0", "--", "-0", "0-", "0x00", too_many.as_str(), &KEY[1..]];
     let beside = NEAR_HEX.map(|letter| KEY.replace('C', &letter.to_string()));
     bad.map(str::to_string).into_iter().chain(beside).collect()

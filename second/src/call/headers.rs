@@ -37,7 +37,7 @@ fn answer(fields: &[&[u8]]) -> Option<String> {
 
 fn cases() -> Vec<String> {
     let mut frames = [sizes(), lengths(), versions(), spares(), meeting()].concat();
-    frames.push(vec![0xFF; 2048]);
+    frames.push(vec![0xFF; 2560]);
     let looks = frames.iter().flat_map(|frame| {
         let frame = shown(frame);
         [format!("look {frame}"), format!("header {frame}")]
@@ -71,9 +71,9 @@ fn sizes() -> Vec<Vec<u8>> {
 fn lengths() -> Vec<Vec<u8>> {
     let mut frames: Vec<Vec<u8>> =
         (0..=good_frame().len()).map(|length| good_frame()[..length].to_vec()).collect();
-    for l in [0, 1, 3, 4, 5, 6, 261, 1_280, 1_523, 1_524, 1_525, 1_526, 2_046, 65_535] {
+    for l in [0, 1, 3, 4, 5, 6, 261, 1_280, 1_523, 1_524, 1_525, 1_526, 2_558, 65_535] {
         let slices = [l - 1, l, l + 1, l + 2, l + 3, 7, 8];
-        let slices = slices.iter().filter(|slice| (2..=2_048).contains(*slice));
+        let slices = slices.iter().filter(|slice| (2..=2_560).contains(*slice));
         frames.extend(slices.map(|&slice| of_length(l as u16, slice as usize)));
     }
     frames
@@ -111,7 +111,7 @@ fn meeting() -> Vec<Vec<u8>> {
 
 /// So many octets, good but for an L that need not fit them.
 fn of_length(l: u16, slice: usize) -> Vec<u8> {
-    let mut frame = framed(3, 1, 26, &payload(2_042));
+    let mut frame = framed(3, 1, 26, &payload(2_554));
     frame[..2].copy_from_slice(&l.to_be_bytes());
     frame.truncate(slice);
     frame

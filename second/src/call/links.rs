@@ -59,7 +59,7 @@ fn ciphers() -> Vec<String> {
         format!("cipher {KEY} 0x1234567 {sapi} {direction} {n} {payload} {room}")
     };
     let mut lines = Vec::new();
-    for octets in [0usize, 1, 2, 8, 9, 1_519, 1_520, 1_521, 2_048] {
+    for octets in [0usize, 1, 2, 8, 9, 1_519, 1_520, 1_521, 2_560] {
         for room in [0, octets.saturating_sub(1), octets, octets + 3] {
             lines.push(cipher(3, 0, 580, octets, room));
         }

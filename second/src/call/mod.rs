@@ -2,11 +2,12 @@
 //! everything that was handed out. Each subject of the product has a file here with the forms of
 //! its lines, their answers, and lines to try them with.
 //!
-//! One space stands between fields. Octets are pairs of hex digits, at most 2,048, or `-` for
+//! One space stands between fields. Octets are pairs of hex digits, at most 2,560, or `-` for
 //! none. All else are numbers within the type of their parameter: decimal, or hex after `0x`. A
 //! room is the size of a lent output, at most 65,600. A line has at most 8,192 octets. The answer
-//! is the refusal number, where the call can be refused, and then what it hands out: octets and
-//! every octet of each lent output in capital hex, numbers in decimal.
+//! is the refusal number, where the call can be refused, and then what it hands out: octets, every
+//! octet of each lent output, a block and a code in capital hex, numbers in decimal, yes as 1 and no
+//! as 0.
 
 mod bits;
 mod ciphers;
@@ -16,6 +17,7 @@ mod forms;
 mod headers;
 mod links;
 mod numbers;
+mod pair;
 mod rounds;
 
 use crate::cases::ended;
@@ -36,9 +38,10 @@ struct Subject {
     cases: fn() -> Vec<String>,
 }
 
-const SUBJECTS: [Subject; 7] = [
+const SUBJECTS: [Subject; 8] = [
     ciphers::SUBJECT,
     rounds::SUBJECT,
+    pair::SUBJECT,
     bits::SUBJECT,
     numbers::SUBJECT,
     headers::SUBJECT,
@@ -103,11 +106,11 @@ mod tests {
         let takes_a_key = |form: &&&str| form.split(' ').nth(1) == Some("KEY");
         let forms: Vec<_> = SUBJECTS.iter().flat_map(|subject| subject.forms).collect();
         let forms: Vec<_> = forms.iter().filter(|form| takes_a_key(form)).collect();
-        assert_eq!(forms.len(), 10);
+        assert_eq!(forms.len(), 13);
         for form in forms {
             let name = form.split(' ').next().unwrap();
-            let whole = ["kasumi", "kgcore", "round_keys"].contains(&name);
-            let lengths: &[usize] = if whole { &[16] } else { &[8, 16] };
+            let whole = ["kasumi", "kgcore", "round_keys", "f8", "f9", "check_code"];
+            let lengths: &[usize] = if whole.contains(&name) { &[16] } else { &[8, 16] };
             let mut tried = BTreeSet::new();
             for line in lines.iter().filter(|line| line.split(' ').next() == Some(name)) {
                 let Some(answer) = answer(line.as_bytes()) else { continue };
@@ -121,10 +124,10 @@ mod tests {
     }
 
     #[test]
-    fn at_most_2048_octets_and_at_most_8192_in_a_line() {
+    fn at_most_2560_octets_and_at_most_8192_in_a_line() {
         let key = |octets| format!("kasumi {} 0", "00".repeat(octets));
-        assert_eq!(answer_to(&key(2048)), "1 0000000000000000");
-        assert_eq!(answer_to(&key(2049)), "?");
+        assert_eq!(answer_to(&key(2560)), "1 0000000000000000");
+        assert_eq!(answer_to(&key(2561)), "?");
         assert_eq!(answer_to(&" ".repeat(8193)), "?");
     }
 }

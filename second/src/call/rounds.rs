@@ -36,7 +36,7 @@ fn cases() -> Vec<String> {
 
 /// Every length of a key from 0 to 33 octets, and the longest that a line holds.
 fn keys() -> Vec<String> {
-    let lengths = (0..=33).chain([2048]);
+    let lengths = (0..=33).chain([2560]);
     lengths.map(|octets| format!("round_keys {}", shown(&key_of(octets)))).collect()
 }
 

@@ -2,4 +2,5 @@
 
 pub mod ciphers;
 pub mod octets;
+pub mod pair;
 pub mod rounds;

@@ -9,16 +9,22 @@ use Rattle.benchmark.proofs.many.Statement.{statement}
 use Rattle.benchmark.proofs.many.Tie as tie
 
 abbrev Inv-loop : tie.InvT-loop
-Inv-loop what m count output₀ key sum₀ number₀ output sum number = (number ≤ count) × (length output ≡ length output₀)
+Inv-loop what m count output₀ key message sum₀ number₀ output sum number = (number ≤ count) × (length output ≡ length output₀)
 
 abbrev μ-loop : tie.MeasureT-loop
-μ-loop what m count output₀ key sum₀ number₀ output sum number = count - number
+μ-loop what m count output₀ key message sum₀ number₀ output sum number = count - number
+
+message-requires : tie.Need-message-requires Inv-loop μ-loop
+message-requires c κs = search needs
 
 loop-holds : tie.Need-loop-holds Inv-loop μ-loop
 loop-holds c = (omega arith, refl)
 
 slice-aggregate-one : tie.Need-slice-aggregate-one Inv-loop μ-loop
 slice-aggregate-one c = search needs
+
+slice-aggregate-one-2 : tie.Need-slice-aggregate-one-2 Inv-loop μ-loop
+slice-aggregate-one-2 c = search needs
 
 one-requires : tie.Need-one-requires Inv-loop μ-loop
 one-requires c κs = search needs
@@ -44,8 +50,10 @@ many-spec =
     (tie.spec
     Inv-loop
     μ-loop
+    message-requires
     loop-holds
     slice-aggregate-one
+    slice-aggregate-one-2
     one-requires
     add-number
     loop-less

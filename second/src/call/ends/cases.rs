@@ -32,7 +32,7 @@ fn openings() -> Vec<String> {
             fields.push(format!("{key} 0xDEADBEEF {sapi} {direction}"));
         }
     }
-    fields.push(format!("{} 1 2 0", "5A".repeat(2_048)));
+    fields.push(format!("{} 1 2 0", "5A".repeat(2_560)));
     fields.extend([3, 128, 255].map(|direction| format!("{KEY} 7 11 {direction}")));
     fields.extend([0, 1, u32::MAX].map(|iov| format!("{KEY} {iov} 1 0")));
     fields
@@ -51,7 +51,7 @@ fn sealed_sizes() -> Vec<String> {
     for (size, room) in [(1_519, 1_525), (1_520, 1_525), (1_520, 1_526), (1_520, 1_527)] {
         lines.push(seal_line(sender_at(538), &payload(size), room));
     }
-    for size in [0, 1_521, 2_048] {
+    for size in [0, 1_521, 2_560] {
         lines.extend([0, 6, size + 6].map(|room| seal_line(sender_at(538), &payload(size), room)));
     }
     lines

@@ -1,0 +1,73 @@
+-- f9, the third generation's integrity (3GPP TS 35.201): a code of 32 bits over a message, and the check of a code. Assumes nothing.
+use Prim.Native.Nat.{ℕ, zero, suc, _+_, _-_, _*_, _/_, _%_}
+use mathlib.Core.Bool.{Bool, false, not}
+use mathlib.Core.List.{List, [], _∷_, _++_}
+use lib.Bits.{bitXor}
+use lib.Dec.{eqb, ltb}
+use lib.ListN.{length, getD, replicate}
+use Rattle.refusals.specs.Refusal.{Row}
+use Rattle.refusals.specs.Call.{Call, tells, makes}
+use Rattle.octets.specs.Bits.{bitAt, bitOf, number, listed, size}
+use Rattle.octets.specs.Xor.{xored}
+use Rattle.kasumi.specs.Kasumi.{left, kasumi}
+use Rattle.pair.specs.Message.{isKey, isSize}
+use Rattle.pair.specs.declared.F9Inputs.{F9Inputs}
+
+-- ---- the padded string PS, a list of bits
+
+-- the bits of a number of `width` bits, the highest first
+abbrev pub bitsOf : ℕ → ℕ → List ℕ
+bitsOf width x = listed (bitAt width x) width
+
+-- how many zeros end the string of a message of so many bits: 0 to 63, to a whole number of blocks
+unfoldable pub zerosAfter : ℕ → ℕ
+zerosAfter bits = (64 - (32 + 32 + bits + 1 + 1) % 64) % 64
+
+-- COUNT (32 bits), FRESH (32), the message, DIRECTION (1), a 1, and the zeros
+unfoldable pub padded : F9Inputs → List ℕ → ℕ → List ℕ
+padded inputs message bits =
+    bitsOf 32 (inputs .count) ++ bitsOf 32 (inputs .fresh) ++ listed (bitOf message) bits ++ bitsOf 1 (inputs .direction) ++ (1 ∷ []) ++ replicate (zerosAfter bits) 0
+
+-- PSn, n from 0: the 64 bits of block n of a string as a number
+unfoldable pub blockOf : List ℕ → ℕ → ℕ
+blockOf string n = number (λ j. getD string (64 * n + j) 0) 64
+
+-- ---- the code
+
+-- A after n blocks: at first 0, then KASUMI of the A before xor the next block
+unfoldable pub chained : List ℕ → List ℕ → ℕ → ℕ
+chained key string zero = 0
+chained key string (suc n) = kasumi key (bitXor (chained key string n) (blockOf string n))
+
+-- B after n blocks: at first 0, then the B before xor the new A
+unfoldable pub gathered : List ℕ → List ℕ → ℕ → ℕ
+gathered key string zero = 0
+gathered key string (suc n) = bitXor (gathered key string n) (chained key string (suc n))
+
+-- the key modifier KM, 16 octets AA
+unfoldable pub modifier : List ℕ
+modifier = replicate 16 0xAA
+
+-- the code: the left half of KASUMI of B, after all blocks, under the key xor KM
+unfoldable pub f9Code : F9Inputs → List ℕ → List ℕ → ℕ → ℕ
+f9Code inputs key message bits =
+    let string = padded inputs message bits in
+    left 32 (kasumi (xored key modifier) (gathered key string (length string / 64)))
+
+-- ---- the calls
+
+-- the refusals of a call, in their order
+unfoldable pub f9Order : F9Inputs → List ℕ → List ℕ → ℕ → List Row
+f9Order inputs key message bits =
+    record { number = 1; holds = not (isKey key) } ∷
+    record { number = 2; holds = ltb 1 (inputs .direction) } ∷
+    record { number = 3; holds = not (isSize bits) } ∷
+    record { number = 5; holds = ltb (length message) (size bits) } ∷ []
+
+-- pair::f9 hands out the code
+abbrev pub f9Call : F9Inputs → List ℕ → List ℕ → ℕ → Call (Unit {0})
+f9Call inputs key message bits = tells (f9Order inputs key message bits) (f9Code inputs key message bits ∷ [])
+
+-- pair::check_code answers whether a code is the message's; where it is refused, no
+abbrev pub checkCall : F9Inputs → List ℕ → List ℕ → ℕ → ℕ → Call Bool
+checkCall inputs key message bits code = makes (f9Order inputs key message bits) false (eqb (f9Code inputs key message bits) code)

@@ -1,0 +1,3 @@
+pub mod F8
+pub mod F9
+pub mod Message
