@@ -48,11 +48,12 @@ gathered key string (suc n) = bitXor (gathered key string n) (chained key string
 unfoldable pub modifier : List ℕ
 modifier = replicate 16 0xAA
 
--- the code: the left half of KASUMI of B, after all blocks, under the key xor KM
+-- the code of a string: the left half of KASUMI of B, after all its blocks, under the key xor KM
+unfoldable pub codeOf : List ℕ → List ℕ → ℕ
+codeOf key string = left 32 (kasumi (xored key modifier) (gathered key string (length string / 64)))
+
 unfoldable pub f9Code : F9Inputs → List ℕ → List ℕ → ℕ → ℕ
-f9Code inputs key message bits =
-    let string = padded inputs message bits in
-    left 32 (kasumi (xored key modifier) (gathered key string (length string / 64)))
+f9Code inputs key message bits = codeOf key (padded inputs message bits)
 
 -- ---- the calls
 

@@ -3,12 +3,10 @@ use Prim.Native.Nat.{ℕ, _+_, _*_, _/_, _%_, _<_}
 use native.Mathlib.Omega.{arith}
 use mathlib.Core.Path.{_≡_, refl, sym, ap, subst, _∙_}
 use mathlib.Core.Bool.{true}
-use mathlib.Core.List.{List, _++_}
-use lib.ListN.{length, getD, drop}
-use lib.Seq.{drop-at}
+use mathlib.Core.List.{List}
+use lib.ListN.{length, getD}
 use Rattle.refusals.specs.Call.{front, Outputs}
-use Rattle.octets.specs.Bits.{bitAt, bitOf, part, size, stored}
-use Rattle.octets.proofs.Stored.{length-stored, front-stored, part-in, part-out, part-of-stored}
+use Rattle.octets.specs.Bits.{bitAt, bitOf, size, stored}
 use Rattle.kgcore.specs.declared.Inputs.{Inputs}
 use Rattle.kgcore.specs.Kgcore.{keyBit}
 use Rattle.kgcore.proofs.Laws.{keyBit-lt}
@@ -17,6 +15,7 @@ use Rattle.keystreams.specs.A5.{gsmKind, ecsdKind, half, block1, block2, a5Inpu
 use Rattle.keystreams.specs.Gea4.{gea4Output, gea4Inputs}
 use Rattle.keystreams.proofs.Keys.{key-most, length-prepared, prepared-octet, source-before, source-past, prepare-done}
 use Rattle.promises.specs.BitForBit.{HoldsBits, FilledUp, BitForBit}
+use Rattle.promises.proofs.Holding.{holds-bits}
 
 -- ---- what a key yields is the key filled up
 
@@ -40,25 +39,9 @@ module _ (key : List ℕ) (is : isKey key ≡ true) where
 -- ---- the keystreams
 
 -- what a success leaves holds the bits
-module _ (key : List ℕ) (inputs : Inputs) (start count : ℕ) (before after : List ℕ) (is : after ≡ front (stored (keyBit key inputs) start count) before) where
-  whole : after ≡ stored (keyBit key inputs) start count ++ drop (size count) before
-  whole = is ∙ front-stored (keyBit key inputs) start count before
-
-  bit-is : (i : ℕ) → i < 8 * size count → bitOf after i ≡ part (keyBit key inputs) start count i
-  bit-is i within =
-      ap (λ (l : List ℕ). bitOf l i) whole ∙ part-of-stored (keyBit key inputs) start count (drop (size count) before) i within (keyBit-lt key inputs)
-
-  holds-bits : (octets : ℕ) → size count ≡ octets → HoldsBits (keyBit key inputs) start count octets before after
-  unfolding size
-  holds-bits octets all =
-      subst (λ (o : ℕ). HoldsBits (keyBit key inputs) start count o before after) all
-      (record {
-        bits = λ i within. bit-is i (omega arith) ∙ part-in (keyBit key inputs) start count i within;
-        spare = λ i past within. bit-is i within ∙ part-out (keyBit key inputs) start count i past;
-        past =
-            ap (drop (size count)) whole
-            ∙ drop-at (stored (keyBit key inputs) start count) (drop (size count) before) (size count) (length-stored (keyBit key inputs) start count);
-      })
+key-bits : (key : List ℕ) (inputs : Inputs) (start count : ℕ) (before after : List ℕ) → after ≡ front (stored (keyBit key inputs) start count) before
+    → (octets : ℕ) → size count ≡ octets → HoldsBits (keyBit key inputs) start count octets before after
+key-bits key inputs = holds-bits (keyBit key inputs) (keyBit-lt key inputs)
 
 pub bit-for-bit : BitForBit
 unfolding block1 block2 half gsmKind ecsdKind gea4Output size
@@ -66,15 +49,15 @@ bit-for-bit = record {
   preparation = λ key answered.
       let done = prepare-done key answered refl in
       (done .1, subst (FilledUp key) (sym (done .1)) (filled-up key (done .0)));
-  kgcore = λ inputs key cl octets before {output} answered enough fewest. holds-bits key inputs 0 cl before output (answered .lent-is) octets (omega arith);
+  kgcore = λ inputs key cl octets before {output} answered enough fewest. key-bits key inputs 0 cl before output (answered .lent-is) octets (omega arith);
   gsm = λ key count before {blocks} answered. (
-    holds-bits (prepared key) (a5Inputs gsmKind count) 0 114 (before .one) (blocks .one) (ap (λ (l : Outputs). l .one) (answered .lent-is)) 15 refl,
-    holds-bits (prepared key) (a5Inputs gsmKind count) 114 114 (before .two) (blocks .two) (ap (λ (l : Outputs). l .two) (answered .lent-is)) 15 refl,
+    key-bits (prepared key) (a5Inputs gsmKind count) 0 114 (before .one) (blocks .one) (ap (λ (l : Outputs). l .one) (answered .lent-is)) 15 refl,
+    key-bits (prepared key) (a5Inputs gsmKind count) 114 114 (before .two) (blocks .two) (ap (λ (l : Outputs). l .two) (answered .lent-is)) 15 refl,
   );
   ecsd = λ key count before {blocks} answered. (
-    holds-bits (prepared key) (a5Inputs ecsdKind count) 0 348 (before .one) (blocks .one) (ap (λ (l : Outputs). l .one) (answered .lent-is)) 44 refl,
-    holds-bits (prepared key) (a5Inputs ecsdKind count) 348 348 (before .two) (blocks .two) (ap (λ (l : Outputs). l .two) (answered .lent-is)) 44 refl,
+    key-bits (prepared key) (a5Inputs ecsdKind count) 0 348 (before .one) (blocks .one) (ap (λ (l : Outputs). l .one) (answered .lent-is)) 44 refl,
+    key-bits (prepared key) (a5Inputs ecsdKind count) 348 348 (before .two) (blocks .two) (ap (λ (l : Outputs). l .two) (answered .lent-is)) 44 refl,
   );
   gea4 = λ key input direction m before {output} answered.
-      holds-bits (prepared key) (gea4Inputs input direction) 0 (8 * m) before output (answered .lent-is) m (omega arith);
+      key-bits (prepared key) (gea4Inputs input direction) 0 (8 * m) before output (answered .lent-is) m (omega arith);
 }

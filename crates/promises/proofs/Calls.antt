@@ -11,6 +11,8 @@ use Rattle.kgcore.specs.Kgcore.{kgcoreOrder}
 use Rattle.keystreams.specs.Key.{keyOrder}
 use Rattle.keystreams.specs.A5.{a5Order}
 use Rattle.keystreams.specs.Gea4.{gea4Order}
+use Rattle.pair.specs.F8.{f8Order}
+use Rattle.pair.specs.F9.{f9Order}
 use Rattle.numbering.specs.Numbering.{candidateOrder, numberOrder}
 use Rattle.frames.specs.Frame.{lookOrder, headerOrder}
 use Rattle.link.specs.Link.{linkOrder, cipherOrder}
@@ -45,9 +47,9 @@ abbrev IsOrder : (Lent : Type 0) → Call Lent → Type 0
 IsOrder Lent call = T (isOrder (call .order))
 
 orders : All (Always IsOrder) publicCalls
-unfolding cutOrder xorOrder kasumiOrder kgcoreOrder keyOrder a5Order gea4Order candidateOrder numberOrder lookOrder headerOrder linkOrder cipherOrder sealOrder openOrder digitsOrder roomOrder hexOrder
+unfolding cutOrder xorOrder kasumiOrder kgcoreOrder keyOrder a5Order gea4Order f8Order f9Order candidateOrder numberOrder lookOrder headerOrder linkOrder cipherOrder sealOrder openOrder digitsOrder roomOrder hexOrder
 orders =
-    tt ⊗ tt ⊗ tt ⊗ in4 ⊗ in3 ⊗ tt ⊗ in1 ⊗ tt ⊗ in2 ⊗ in4 ⊗ in1 ⊗ in3 ⊗ in3 ⊗ in5 ⊗ tt ⊗ tt ⊗ in2 ⊗ tt ⊗ in1 ⊗ tt ⊗ in3 ⊗ tt ⊗ in4 ⊗ in4 ⊗ in4 ⊗ in3 ⊗ in4 ⊗ in3 ⊗ in1 ⊗ in1 ⊗ in2 ⊗ in2 ⊗ in2 ⊗ in2 ⊗ tt ⊗ tt ⊗ tt ⊗ tt
+    tt ⊗ tt ⊗ tt ⊗ in4 ⊗ in3 ⊗ tt ⊗ in1 ⊗ tt ⊗ in2 ⊗ in4 ⊗ in1 ⊗ in3 ⊗ in3 ⊗ in5 ⊗ in5 ⊗ in4 ⊗ in5 ⊗ tt ⊗ tt ⊗ in2 ⊗ tt ⊗ in1 ⊗ tt ⊗ in3 ⊗ tt ⊗ in4 ⊗ in4 ⊗ in4 ⊗ in3 ⊗ in4 ⊗ in3 ⊗ in1 ⊗ in1 ⊗ in2 ⊗ in2 ⊗ in2 ⊗ in2 ⊗ tt ⊗ tt ⊗ tt ⊗ tt
 
 pub all-answer : All (Always (λ Lent call. Answers call)) publicCalls
 all-answer = of-all (λ Lent call order. answers call order) publicCalls orders

@@ -5,6 +5,7 @@ pub mod ByTheRule
 pub mod Calls
 pub mod Examples
 pub mod Frames
+pub mod Holding
 pub mod NoInputTwice
 pub mod Promise1
 pub mod Promise2
@@ -12,3 +13,4 @@ pub mod Promise3
 pub mod Receiving
 pub mod Sending
 pub mod ShortKeys
+pub mod ThirdGeneration

@@ -12,6 +12,8 @@ use Rattle.kgcore.specs.Kgcore.{kgcoreCall}
 use Rattle.keystreams.specs.Key.{prepareKeyCall}
 use Rattle.keystreams.specs.A5.{gsmKind, ecsdKind, a5Call}
 use Rattle.keystreams.specs.Gea4.{gea4Call}
+use Rattle.pair.specs.F8.{f8Call}
+use Rattle.pair.specs.F9.{f9Call, checkCall}
 use Rattle.numbering.specs.Numbering.{width, start, canArise, numberCall}
 use Rattle.frames.specs.Frame.{looked, lookRefusalCall, headerOf, putHeaderCall}
 use Rattle.link.specs.Link.{linkCanArise, openLinkCall, cipherCall}
@@ -51,6 +53,12 @@ publicCalls =
     call3 (a5Call ecsdKind) ∷
     -- keystreams::gea4
     call5 gea4Call ∷
+    -- pair::f8
+    call5 f8Call ∷
+    -- pair::f9
+    call4 f9Call ∷
+    -- pair::check_code
+    call5 checkCall ∷
     -- numbering::start
     function start ∷
     -- numbering::can_arise

@@ -8,3 +8,4 @@ pub mod Promise1
 pub mod Promise2
 pub mod Promise3
 pub mod ShortKeys
+pub mod ThirdGeneration

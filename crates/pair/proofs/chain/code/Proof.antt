@@ -17,7 +17,7 @@ use Rattle.octets.proofs.Xored.{length-xored}
 use Rattle.kasumi.specs.Kasumi.{left, kasumi}
 use Rattle.kasumi.specs.Lent.{roundWords, cipheredBy}
 use Rattle.kasumi.proofs.Lent.{ciphered-kasumi}
-use Rattle.pair.specs.F9.{zerosAfter, padded, blockOf, chained, gathered, modifier, f9Code}
+use Rattle.pair.specs.F9.{zerosAfter, padded, blockOf, chained, gathered, modifier, codeOf, f9Code}
 use Rattle.pair.proofs.Padded.{length-padded}
 use Rattle.pair.proofs.chain.code.Statement.{statement}
 use Rattle.pair.proofs.chain.code.Tie as tie
@@ -159,7 +159,7 @@ cast-result : tie.Need-cast-result Inv-loop μ-loop
 cast-result c = search needs
 
 returns : tie.Need-returns Inv-loop μ-loop
-unfolding f9Code
+unfolding f9Code codeOf
 returns c =
     let at-loop = c .before .before .before .before in
     let inputs = start at-loop .args .inputs in
