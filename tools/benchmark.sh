@@ -105,6 +105,10 @@ row 'GEA4, 1,520 octets' 0 1520 4000
 row 'GEA4, 65,536 octets' 0 65536 100
 row 'seal, 1,520 octets' 3 1520 4000
 row 'open, 1,520 octets' 4 1520 4001
+row 'f8, 1,000 bits' 5 1000 20000
+row 'f9, 1,000 bits' 6 1000 20000
+row 'f8, 20,000 bits' 5 20000 2000
+row 'f9, 20,000 bits' 6 20000 2000
 
 # What sealing and opening take beside GEA4 alone is little, so these three take turns too.
 for what in 0 3 4; do : >"$room/$what.all"; done

@@ -49,7 +49,7 @@ putsTwo order results outputs = record {
   after = record { one = front (results .one) (outputs .one); two = front (results .two) (outputs .two) };
 }
 
--- a call that makes a state, or hands back, when refused, the state that no call takes
+-- a call that makes a state, or hands back, when refused, the state that no call takes; and a check, which hands back its answer, or, when refused, no
 abbrev pub makes : {State : Type 0} → List Row → State → State → Call State
 makes order refused made = record { order = order; numbers = []; candidateWith = noCandidate; before = refused; after = made }
 

@@ -1,6 +1,6 @@
 // The refusal numbers of document 01, named once. A call answers 0 where nothing is refused.
 
-// The key is neither 8 octets nor 16; of KASUMI and KGCORE, not 16.
+// The key is neither 8 octets nor 16; of KASUMI, KGCORE, f8 and f9, not 16.
 pub const KEY: u8 = 1;
 
 // An input is above its range, or a service number is not assigned.
@@ -12,7 +12,7 @@ pub const SIZE: u8 = 3;
 // A lent output is shorter than the result.
 pub const ROOM: u8 = 4;
 
-// A frame is under 7 octets, its L is outside 5 to 1,524, or it is not L + 2 octets.
+// A frame is under 7 octets, its L is outside 5 to 1,524, or it is not L + 2 octets; a message of f8 or f9 is shorter than its bits.
 pub const LENGTH: u8 = 5;
 
 // A frame's version is not 1.
