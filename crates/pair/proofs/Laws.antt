@@ -1,12 +1,19 @@
--- The laws of f8 and f9 over their definitions: f8 of f8 is the message, and neither reads more than the bits that it is told to.
+-- The laws of f8 and f9 over their definitions: when they are not refused, that f8 of f8 is the message, and that neither reads more than the bits that it
+-- is told to.
 -- Assumes nothing.
-use Prim.Native.Nat.{ℕ, _+_, _^_, _<_}
+use Prim.Native.Nat.{ℕ, _+_, _^_, _<_, _≤_}
 use native.Mathlib.Omega.{arith}
-use mathlib.Core.Path.{_≡_, ap, _∙_}
+use mathlib.Core.Path.{_≡_, ap, ap₂, _∙_}
+use mathlib.Core.Bool.{true, false, _||_}
 use mathlib.Core.List.{List, [], _∷_, _++_}
+use borrow.Author.Tests.{eq-eqb, lt-ltb, le-ltb, le-leb}
 use lib.Bits.{bitXor, xor-lt}
-use lib.ListN.{replicate}
-use Rattle.octets.specs.Bits.{bitOf, listed, stored}
+use lib.Dec.{ltb}
+use lib.ListN.{length, replicate}
+use Rattle.refusals.specs.Refusal.{first}
+use Rattle.refusals.specs.Call.{Answered, front}
+use Rattle.refusals.proofs.Calls.{answered-done, head-is}
+use Rattle.octets.specs.Bits.{bitOf, listed, size, stored}
 use Rattle.octets.proofs.Listed.{listed-ext}
 use Rattle.octets.proofs.Stored.{bitOf-lt, stored-ext, bit-of-stored-front}
 use Rattle.octets.proofs.Xored.{xor-twice}
@@ -14,8 +21,9 @@ use Rattle.kgcore.specs.Kgcore.{keyBit}
 use Rattle.kgcore.proofs.Laws.{keyBit-lt}
 use Rattle.pair.specs.declared.F8Inputs.{F8Inputs}
 use Rattle.pair.specs.declared.F9Inputs.{F9Inputs}
-use Rattle.pair.specs.F8.{f8Core, f8Bit, f8Output}
-use Rattle.pair.specs.F9.{bitsOf, zerosAfter, padded, codeOf, f9Code}
+use Rattle.pair.specs.Message.{isKey, isSize}
+use Rattle.pair.specs.F8.{f8Core, f8Bit, f8Output, f8Order, f8Call}
+use Rattle.pair.specs.F9.{bitsOf, zerosAfter, padded, codeOf, f9Code, f9Order, f9Call}
 
 -- a bit of f8's output is 0 or 1
 pub f8Bit-lt : (inputs : F8Inputs) (key message : List ℕ) (i : ℕ) → f8Bit inputs key message i < 2
@@ -52,3 +60,35 @@ module _ (message message′ : List ℕ) (bits : ℕ) (same : (i : ℕ) → i < 
   pub f9-same : (inputs : F9Inputs) (key : List ℕ) → f9Code inputs key message bits ≡ f9Code inputs key message′ bits
   unfolding f9Code
   f9-same inputs key = ap (codeOf key) (padded-same inputs)
+
+-- ---- for the callers
+
+-- what is in range is a key and a size
+taken-key : (key : List ℕ) → length key ≡ 16 → isKey key ≡ true
+unfolding isKey
+taken-key key sixteen = eq-eqb (length key) 16 sixteen
+
+taken-size : (bits : ℕ) → 0 < bits → bits ≤ 20000 → isSize bits ≡ true
+unfolding isSize
+taken-size bits some most = rw (lt-ltb 0 bits some, le-leb bits 20000 most)
+
+-- where no cause of a refusal holds f8 puts its output, and the octets past it are kept
+pub f8-done : (inputs : F8Inputs) (key message : List ℕ) (bits : ℕ) (before : List ℕ) {refusal : ℕ} {numbers after : List ℕ} → Answered (f8Call inputs key message bits before) refusal numbers after
+    → length key ≡ 16 → inputs .bearer ≤ 31 → inputs .direction ≤ 1 → 0 < bits → bits ≤ 20000 → size bits ≤ length message → size bits ≤ length before
+    → (refusal ≡ 0) × (after ≡ front (f8Output inputs key message bits) before)
+unfolding first f8Order
+f8-done inputs key message bits before answered sixteen bearer way some most enough room =
+    let range : (ltb 31 (inputs .bearer) || ltb 1 (inputs .direction)) ≡ false = ap₂ _||_ (le-ltb 31 (inputs .bearer) bearer) (le-ltb 1 (inputs .direction) way) in
+    let done = answered-done (f8Call inputs key message bits before) answered
+    (rw (taken-key key sixteen, range, taken-size bits some most, le-ltb (length message) (size bits) enough, le-ltb (length before) (size bits) room)) in
+    (done .0, done .2)
+
+-- and f9 hands out the code
+pub f9-done : (inputs : F9Inputs) (key message : List ℕ) (bits : ℕ) {refusal code : ℕ} → Answered (f9Call inputs key message bits) refusal (code ∷ []) tt
+    → length key ≡ 16 → inputs .direction ≤ 1 → 0 < bits → bits ≤ 20000 → size bits ≤ length message
+    → (refusal ≡ 0) × (code ≡ f9Code inputs key message bits)
+unfolding first f9Order
+f9-done inputs key message bits answered sixteen way some most enough =
+    let done = answered-done (f9Call inputs key message bits) answered
+    (rw (taken-key key sixteen, le-ltb 1 (inputs .direction) way, taken-size bits some most, le-ltb (length message) (size bits) enough)) in
+    (done .0, head-is (done .1))

@@ -1,12 +1,14 @@
--- f9, the third generation's integrity (3GPP TS 35.201): a code of 32 bits over a message, and the check of a code. Assumes nothing.
+-- f9, the third generation's integrity (3GPP TS 35.201): a code of 32 bits over a message, and the check of a code. The rule: the padded string PS is
+-- COUNT, FRESH, MESSAGE, DIRECTION, a 1 and zeros, to a multiple of 64 bits; A0 = B0 = 0, Ai = KASUMI(A(i-1) xor PSi) and Bi = B(i-1) xor Ai, for each
+-- block PSi, i from 1; and the code, MAC-I, is the left half of KASUMI(B) under the key xor KM. Assumes nothing.
 use Prim.Native.Nat.{ℕ, zero, suc, _+_, _-_, _*_, _/_, _%_}
-use mathlib.Core.Bool.{Bool, false, not}
+use mathlib.Core.Bool.{Bool, not}
 use mathlib.Core.List.{List, [], _∷_, _++_}
 use lib.Bits.{bitXor}
 use lib.Dec.{eqb, ltb}
 use lib.ListN.{length, getD, replicate}
 use Rattle.refusals.specs.Refusal.{Row}
-use Rattle.refusals.specs.Call.{Call, tells, makes}
+use Rattle.refusals.specs.Call.{Call, tells, says}
 use Rattle.octets.specs.Bits.{bitAt, bitOf, number, listed, size}
 use Rattle.octets.specs.Xor.{xored}
 use Rattle.kasumi.specs.Kasumi.{left, kasumi}
@@ -26,20 +28,25 @@ zerosAfter bits = (64 - (32 + 32 + bits + 1 + 1) % 64) % 64
 -- COUNT (32 bits), FRESH (32), the message, DIRECTION (1), a 1, and the zeros
 unfoldable pub padded : F9Inputs → List ℕ → ℕ → List ℕ
 padded inputs message bits =
-    bitsOf 32 (inputs .count) ++ bitsOf 32 (inputs .fresh) ++ listed (bitOf message) bits ++ bitsOf 1 (inputs .direction) ++ (1 ∷ []) ++ replicate (zerosAfter bits) 0
+    bitsOf 32 (inputs .count)
+    ++ bitsOf 32 (inputs .fresh)
+    ++ listed (bitOf message) bits
+    ++ bitsOf 1 (inputs .direction)
+    ++ (1 ∷ [])
+    ++ replicate (zerosAfter bits) 0
 
--- PSn, n from 0: the 64 bits of block n of a string as a number
+-- the 64 bits of a block of a string as a number; blocks are counted from 0 here, so this is the PS(n+1) of the rule
 unfoldable pub blockOf : List ℕ → ℕ → ℕ
 blockOf string n = number (λ j. getD string (64 * n + j) 0) 64
 
 -- ---- the code
 
--- A after n blocks: at first 0, then KASUMI of the A before xor the next block
+-- A after n blocks, An: at first 0, then KASUMI of the A before xor the next block
 unfoldable pub chained : List ℕ → List ℕ → ℕ → ℕ
 chained key string zero = 0
 chained key string (suc n) = kasumi key (bitXor (chained key string n) (blockOf string n))
 
--- B after n blocks: at first 0, then the B before xor the new A
+-- B after n blocks, Bn: at first 0, then the B before xor the new A
 unfoldable pub gathered : List ℕ → List ℕ → ℕ → ℕ
 gathered key string zero = 0
 gathered key string (suc n) = bitXor (gathered key string n) (chained key string (suc n))
@@ -52,6 +59,7 @@ modifier = replicate 16 0xAA
 unfoldable pub codeOf : List ℕ → List ℕ → ℕ
 codeOf key string = left 32 (kasumi (xored key modifier) (gathered key string (length string / 64)))
 
+-- the code of a message's first bits
 unfoldable pub f9Code : F9Inputs → List ℕ → List ℕ → ℕ → ℕ
 f9Code inputs key message bits = codeOf key (padded inputs message bits)
 
@@ -71,4 +79,4 @@ f9Call inputs key message bits = tells (f9Order inputs key message bits) (f9Code
 
 -- pair::check_code answers whether a code is the message's; where it is refused, no
 abbrev pub checkCall : F9Inputs → List ℕ → List ℕ → ℕ → ℕ → Call Bool
-checkCall inputs key message bits code = makes (f9Order inputs key message bits) false (eqb (f9Code inputs key message bits) code)
+checkCall inputs key message bits code = says (f9Order inputs key message bits) (eqb (f9Code inputs key message bits) code)

@@ -9,6 +9,6 @@ use lib.ListN.{length}
 unfoldable pub isKey : List ℕ → Bool
 isKey key = eqb (length key) 16
 
--- a message has 1 to 20,000 bits (document 004, table A.1)
+-- a message has 1 to 20,000 bits (document 02, item 2; for f8 document 004, table A.1, too)
 unfoldable pub isSize : ℕ → Bool
 isSize bits = ltb 0 bits && leb bits 20000

@@ -1,6 +1,7 @@
 // The third generation pair of TS 35.201: f8, which enciphers a message, and f9, which gives a code by which a changed message is told. Both take a key
 // of 16 octets and a message of 1 to 20,000 bits.
 mod chain;
+mod kinds;
 mod string;
 
 ghost use mathlib.Core.Path.{_≡_};
@@ -13,6 +14,7 @@ ghost use Rattle.pair.specs.Message.{isKey, isSize};
 ghost use Rattle.pair.specs.F8.{f8Output, f8Call};
 ghost use Rattle.pair.specs.F9.{f9Call, checkCall};
 use kgcore::Inputs;
+use kinds::F8;
 
 // The most bits of a message.
 const MOST_BITS: u32 = 20_000;
@@ -43,15 +45,6 @@ pub struct Checked {
     pub right: bool,
 }
 
-// The fixed inputs of f8 (document 004, table B.1); CB is the BEARER.
-pub struct F8Kind {}
-
-impl F8Kind {
-    pub const CA: u8 = 0;
-
-    pub const CE: u16 = 0;
-}
-
 // A key of the pair has 16 octets; 8 will not do here.
 fn is_key(key: &[u8]) -> bool
     ensures { λ r. ⌜ r ≡ isKey (now (key .entry)) ⌝ }
@@ -66,7 +59,7 @@ fn is_size(bits: u32) -> bool
     (0 < bits) & (bits <= MOST_BITS)
 }
 
-// Room for the longest keystream.
+// Room for the longest keystream: 20,000 bits are 2,500 octets.
 fn room() -> [u8; 2500]
     ensures { λ r. ⌜ length r ≡ 2500 ⌝ }
 {
@@ -83,11 +76,11 @@ fn put_ciphered(inputs: F8Inputs, key: &[u8], message: &[u8], bits: u32, output:
     let mut stream = room();
     kgcore::kgcore(
         Inputs {
-            ca: F8Kind::CA,
+            ca: F8::CA,
             cb: inputs.bearer,
             cc: inputs.count,
             cd: inputs.direction,
-            ce: F8Kind::CE,
+            ce: F8::CE,
         },
         key,
         bits,

@@ -21,7 +21,7 @@ use Rattle.pair.specs.F8.{f8Bit, f8Output, f8Order, f8Call}
 use Rattle.pair.specs.F9.{padded, zerosAfter, f9Code, f9Order, f9Call, checkCall}
 use Rattle.pair.proofs.Padded.{one-bit, zero-bit, length-padded}
 use Rattle.pair.proofs.Telling.{bits-told, message-told, count-told, fresh-told, direction-told}
-use Rattle.pair.proofs.Laws.{f8Bit-lt, f8-back, f8-same, f9-same}
+use Rattle.pair.proofs.Laws.{f8Bit-lt, f8-back, f8-same, f9-same, f8-done, f9-done}
 use Rattle.promises.specs.BitForBit.{HoldsBits}
 use Rattle.promises.specs.ThirdGeneration.{BeginAlike, Confidentiality, Fits, Told, Integrity, ThirdGeneration}
 use Rattle.promises.proofs.Holding.{holds-bits}
@@ -29,80 +29,82 @@ use Rattle.promises.proofs.Holding.{holds-bits}
 -- ---- f8
 
 -- a call that is not refused finds no cause: the message is long enough, and the output
-module _ (inputs : F8Inputs) (key message : List ℕ) (count : ℕ) (before : List ℕ) (none : first (f8Order inputs key message count before) ≡ 0) where
-  cause : (k : ℕ) → rowAt (f8Order inputs key message count before) k .holds ≡ false
+module _ (inputs : F8Inputs) (key message : List ℕ) (bits : ℕ) (before : List ℕ) (none : first (f8Order inputs key message bits before) ≡ 0) where
+  cause : (k : ℕ) → rowAt (f8Order inputs key message bits before) k .holds ≡ false
   unfolding f8Order
-  cause = then-and-only-then (f8Order inputs key message count before) tt 0 (sym none) .none .0 refl
+  cause = then-and-only-then (f8Order inputs key message bits before) tt 0 (sym none) .none .0 refl
 
-  room-was : size count ≤ length before
+  room-was : size bits ≤ length before
   unfolding rowAt f8Order
-  room-was = ltb-false (length before) (size count) (cause 4)
+  room-was = ltb-false (length before) (size bits) (cause 4)
 
   -- nor does one with another message and another output, where these are long enough
-  not-refused : (message′ again : List ℕ) → size count ≤ length message′ → size count ≤ length again → first (f8Order inputs key message′ count again) ≡ 0
+  not-refused : (message′ again : List ℕ) → size bits ≤ length message′ → size bits ≤ length again → first (f8Order inputs key message′ bits again) ≡ 0
   unfolding first rowAt f8Order
-  not-refused message′ again enough room = rw (cause 0, cause 1, cause 2, le-ltb (length message′) (size count) enough, le-ltb (length again) (size count) room)
+  not-refused message′ again enough room = rw (cause 0, cause 1, cause 2, le-ltb (length message′) (size bits) enough, le-ltb (length again) (size bits) room)
 
-f8-undone : (inputs : F8Inputs) (key message : List ℕ) (count octets : ℕ) (before again : List ℕ) {output : List ℕ} → Answered (f8Call inputs key message count before) 0 [] output
-    → size count ≡ octets → octets ≤ length again
-    → {refusal : ℕ} {output′ : List ℕ} → Answered (f8Call inputs key output count again) refusal [] output′
-    → (refusal ≡ 0) × HoldsBits (bitOf message) 0 count octets again output′
+f8-undone : (inputs : F8Inputs) (key message : List ℕ) (bits octets : ℕ) (before again : List ℕ) {output : List ℕ} → Answered (f8Call inputs key message bits before) 0 [] output
+    → size bits ≡ octets → octets ≤ length again
+    → {refusal : ℕ} {output′ : List ℕ} → Answered (f8Call inputs key output bits again) refusal [] output′
+    → (refusal ≡ 0) × HoldsBits (bitOf message) 0 bits octets again output′
 unfolding f8Output
-f8-undone inputs key message count octets before again {output} once all room {refusal} {output′} twice =
-    let none : first (f8Order inputs key message count before) ≡ 0 = sym (once .refusal-is) in
-    let rest : List ℕ = drop (size count) before in
-    let is : output ≡ f8Output inputs key message count ++ rest = once .lent-is ∙ front-stored (f8Bit inputs key message) 0 count before in
-    let long : length output ≡ size count + length rest =
-    ap length is ∙ length-append (f8Output inputs key message count) rest ∙ ap (λ (n : ℕ). n + length rest) (length-stored (f8Bit inputs key message) 0 count) in
-    let again-done = answered-done (f8Call inputs key output count again) twice
-    (not-refused inputs key message count before none output again (omega (arith, long)) (omega (arith, all, room))) in (
+f8-undone inputs key message bits octets before again {output} once all room {refusal} {output′} twice =
+    let none : first (f8Order inputs key message bits before) ≡ 0 = sym (once .refusal-is) in
+    let rest : List ℕ = drop (size bits) before in
+    let is : output ≡ f8Output inputs key message bits ++ rest = once .lent-is ∙ front-stored (f8Bit inputs key message) 0 bits before in
+    let long : length output ≡ size bits + length rest =
+    ap length is ∙ length-append (f8Output inputs key message bits) rest ∙ ap (λ (n : ℕ). n + length rest) (length-stored (f8Bit inputs key message) 0 bits) in
+    let again-done = answered-done (f8Call inputs key output bits again) twice
+    (not-refused inputs key message bits before none output again (omega (arith, long)) (omega (arith, all, room))) in (
       again-done .0,
-      holds-bits (bitOf message) (bitOf-lt message) 0 count again output′
+      holds-bits (bitOf message) (bitOf-lt message) 0 bits again output′
           (again-done .2
-          ∙ ap (λ (result : List ℕ). front result again) (ap (λ (l : List ℕ). f8Output inputs key l count) is ∙ f8-back inputs key message count rest))
+          ∙ ap (λ (result : List ℕ). front result again) (ap (λ (l : List ℕ). f8Output inputs key l bits) is ∙ f8-back inputs key message bits rest))
           octets
           all,
     )
 
-f8-order-same : (inputs : F8Inputs) (key message message′ : List ℕ) (count : ℕ) (output : List ℕ) → BeginAlike count message message′
-    → f8Order inputs key message count output ≡ f8Order inputs key message′ count output
+f8-order-same : (inputs : F8Inputs) (key message message′ : List ℕ) (bits : ℕ) (output : List ℕ) → BeginAlike bits message message′
+    → f8Order inputs key message bits output ≡ f8Order inputs key message′ bits output
 unfolding f8Order
-f8-order-same inputs key message message′ count output alike =
-    rw (le-ltb (length message) (size count) (alike .enough), le-ltb (length message′) (size count) (alike .enough′))
+f8-order-same inputs key message message′ bits output alike =
+    rw (le-ltb (length message) (size bits) (alike .enough), le-ltb (length message′) (size bits) (alike .enough′))
 
 pub confidentiality : Confidentiality
 unfolding size f8Output f8Bit
 confidentiality = record {
-  bits = λ inputs key message count octets before {output} answered enough fewest.
-      holds-bits (f8Bit inputs key message) (f8Bit-lt inputs key message) 0 count before output (answered .lent-is) octets (omega arith);
-  back = λ inputs key message count octets before again answered enough fewest room twice. f8-undone inputs key message count octets before again answered (omega arith) room twice;
-  reads-no-more = λ inputs key message message′ count output alike.
+  bit-for-bit = λ inputs key message bits octets before {output} answered enough fewest.
+      holds-bits (f8Bit inputs key message) (f8Bit-lt inputs key message) 0 bits before output (answered .lent-is) octets (omega arith);
+  taken = λ inputs key message bits output sixteen bearer way some most enough room answered.
+      f8-done inputs key message bits output answered sixteen bearer way some most enough room .0;
+  back = λ inputs key message bits octets before again answered enough fewest room twice. f8-undone inputs key message bits octets before again answered (omega arith) room twice;
+  reads-no-more = λ inputs key message message′ bits output alike.
       ap outcome
       (ap₂ (λ (order : List Row) (result : List ℕ). puts order result output)
-      (f8-order-same inputs key message message′ count output alike)
-      (f8-same message message′ count (alike .same) inputs key));
+      (f8-order-same inputs key message message′ bits output alike)
+      (f8-same message message′ bits (alike .same) inputs key));
 }
 
 -- ---- f9
 
-f9-order-same : (inputs : F9Inputs) (key message message′ : List ℕ) (count : ℕ) → BeginAlike count message message′
-    → f9Order inputs key message count ≡ f9Order inputs key message′ count
+f9-order-same : (inputs : F9Inputs) (key message message′ : List ℕ) (bits : ℕ) → BeginAlike bits message message′
+    → f9Order inputs key message bits ≡ f9Order inputs key message′ bits
 unfolding f9Order
-f9-order-same inputs key message message′ count alike =
-    rw (le-ltb (length message) (size count) (alike .enough), le-ltb (length message′) (size count) (alike .enough′))
+f9-order-same inputs key message message′ bits alike =
+    rw (le-ltb (length message) (size bits) (alike .enough), le-ltb (length message′) (size bits) (alike .enough′))
 
 -- a check, and what f9 hands out
-module _ (inputs : F9Inputs) (key message : List ℕ) (count code : ℕ) {refusal : ℕ} {right : Bool} (answered : Answered (checkCall inputs key message count code) refusal [] right) where
-  yes-when : Answered (f9Call inputs key message count) 0 (code ∷ []) tt → right ≡ true
+module _ (inputs : F9Inputs) (key message : List ℕ) (bits code : ℕ) {refusal : ℕ} {right : Bool} (answered : Answered (checkCall inputs key message bits code) refusal [] right) where
+  yes-when : Answered (f9Call inputs key message bits) 0 (code ∷ []) tt → right ≡ true
   yes-when given =
-      answered-done (checkCall inputs key message count code) answered (sym (given .refusal-is)) .2
-      ∙ eq-eqb (f9Code inputs key message count) code (sym (head-is (given .numbers-are)))
+      answered-done (checkCall inputs key message bits code) answered (sym (given .refusal-is)) .2
+      ∙ eq-eqb (f9Code inputs key message bits) code (sym (head-is (given .numbers-are)))
 
-  only-when : right ≡ true → Answered (f9Call inputs key message count) 0 (code ∷ []) tt
+  only-when : right ≡ true → Answered (f9Call inputs key message bits) 0 (code ∷ []) tt
   only-when is-yes =
-      by-test (eqb refusal 0) (Answered (f9Call inputs key message count) 0 (code ∷ []) tt)
+      by-test (eqb refusal 0) (Answered (f9Call inputs key message bits) 0 (code ∷ []) tt)
       (λ none.
-      let is : f9Code inputs key message count ≡ code = eqb-true (f9Code inputs key message count) code (sym (answered .lent-is ∙ rw none) ∙ is-yes) in
+      let is : f9Code inputs key message bits ≡ code = eqb-true (f9Code inputs key message bits) code (sym (answered .lent-is ∙ rw none) ∙ is-yes) in
       record { refusal-is = sym (eqb-true refusal 0 none) ∙ answered .refusal-is; numbers-are = ap (λ (own : ℕ). own ∷ []) (sym is); lent-is = refl })
       (λ some.
       let not-right : right ≡ false = answered .lent-is ∙ rw some in
@@ -110,30 +112,31 @@ module _ (inputs : F9Inputs) (key message : List ℕ) (count code : ℕ) {refusa
       absurd (omega arith))
 
 pub integrity : Integrity
-unfolding zerosAfter
+unfolding zerosAfter f9Code
 integrity = record {
-  blocks = λ inputs message count. (omega (arith, length-padded inputs message count), omega arith);
-  last-one = λ inputs message count.
-      let string : List ℕ = padded inputs message count in (
-        ap (λ (k : ℕ). getD string k 0) {y = 64 + (count + 1)} (omega arith) ∙ one-bit inputs message count,
-        λ i past. ap (λ (k : ℕ). getD string k 0) {y = 64 + (count + (2 + (i - count - 66)))} (omega (arith, past)) ∙ zero-bit inputs message count (i - count - 66),
+  blocks = λ inputs message bits. (omega (arith, length-padded inputs message bits), omega arith);
+  last-one = λ inputs message bits.
+      let string : List ℕ = padded inputs message bits in (
+        ap (λ (k : ℕ). getD string k 0) {y = 64 + (bits + 1)} (omega arith) ∙ one-bit inputs message bits,
+        λ i past. ap (λ (k : ℕ). getD string k 0) {y = 64 + (bits + (2 + (i - bits - 66)))} (omega (arith, past)) ∙ zero-bit inputs message bits (i - bits - 66),
       );
-  gives-back = λ inputs inputs′ message message′ count count′ fits fits′ same.
-      let count-is = count-told inputs inputs′ message message′ count count′ same (fits .count) (fits′ .count) in
-      let fresh-is = fresh-told inputs inputs′ message message′ count count′ same (fits .fresh) (fits′ .fresh) in
-      let direction-is = direction-told inputs inputs′ message message′ count count′ same (fits .direction) (fits′ .direction) in
+  gives-back = λ inputs inputs′ message message′ bits bits′ fits fits′ same.
+      let count-is = count-told inputs inputs′ message message′ bits bits′ same (fits .count) (fits′ .count) in
+      let fresh-is = fresh-told inputs inputs′ message message′ bits bits′ same (fits .fresh) (fits′ .fresh) in
+      let direction-is = direction-told inputs inputs′ message message′ bits bits′ same (fits .direction) (fits′ .direction) in
       record {
         inputs-are = λ i. record { count = count-is i; fresh = fresh-is i; direction = direction-is i };
-        length-is = bits-told inputs inputs′ message message′ count count′ same;
-        bits-are = message-told inputs inputs′ message message′ count count′ same;
+        length-is = bits-told inputs inputs′ message message′ bits bits′ same;
+        bits-are = message-told inputs inputs′ message message′ bits bits′ same;
       };
-  reads-each = λ inputs message message′ count i below differ same. differ (message-told inputs inputs message message′ count count same i below);
-  reads-no-more = λ inputs key message message′ count alike.
+  reads-each = λ inputs message message′ bits i below differ same. differ (message-told inputs inputs message message′ bits bits same i below);
+  reads-no-more = λ inputs key message message′ bits alike.
       ap outcome
       (ap₂ (λ (order : List Row) (code : ℕ). tells order (code ∷ []))
-      (f9-order-same inputs key message message′ count alike)
-      (f9-same message message′ count (alike .same) inputs key));
-  check = λ inputs key message count code answered. (only-when inputs key message count code answered, yes-when inputs key message count code answered);
+      (f9-order-same inputs key message message′ bits alike)
+      (f9-same message message′ bits (alike .same) inputs key));
+  taken = λ inputs key message bits sixteen way some most enough answered. f9-done inputs key message bits answered sixteen way some most enough;
+  check = λ inputs key message bits code answered. (only-when inputs key message bits code answered, yes-when inputs key message bits code answered);
 }
 
 pub third-generation : ThirdGeneration
@@ -141,6 +144,7 @@ unfolding first f8Order f9Order isKey
 third-generation = record {
   f8 = confidentiality;
   f9 = integrity;
-  not-short = λ inputs key message count before eight answered. answered .refusal-is ∙ simp (ne-eqb (length key) 16 (omega (arith, eight)));
-  not-short′ = λ inputs key message count eight answered. answered .refusal-is ∙ simp (ne-eqb (length key) 16 (omega (arith, eight)));
+  not-short-f8 = λ inputs key message bits before eight answered. answered .refusal-is ∙ simp (ne-eqb (length key) 16 (omega (arith, eight)));
+  not-short-f9 = λ inputs key message bits eight answered. answered .refusal-is ∙ simp (ne-eqb (length key) 16 (omega (arith, eight)));
+  not-short-check = λ inputs key message bits code eight answered. answered .refusal-is ∙ simp (ne-eqb (length key) 16 (omega (arith, eight)));
 }
