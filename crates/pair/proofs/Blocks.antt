@@ -1,11 +1,10 @@
 -- The padded string of f9, block by block, as the code makes it.
 -- Assumes nothing.
-use Prim.Native.Nat.{ℕ, zero, suc, _+_, _-_, _*_, _/_, _%_, _^_, _<_, _≤_}
+use Prim.Native.Nat.{ℕ, _+_, _-_, _*_, _%_, _^_, _<_, _≤_}
 use native.Mathlib.Omega.{arith}
 use native.Mathlib.Nat.{div-one, mod-eq-of-lt}
 use mathlib.Core.Path.{_≡_, refl, sym, ap, ap₂, _∙_}
 use mathlib.Core.List.{List}
-use lib.Dec.{lit<}
 use lib.ListN.{getD}
 use Rattle.octets.specs.Bits.{bitAt, bitOf, part, number}
 use Rattle.octets.proofs.Number.{number-ext, number-lt, number-add, number-zeros, number-whole}

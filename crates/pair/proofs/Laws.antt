@@ -1,7 +1,7 @@
 -- The laws of f8 and f9 over their definitions: when they are not refused, that f8 of f8 is the message, and that neither reads more than the bits that it
 -- is told to.
 -- Assumes nothing.
-use Prim.Native.Nat.{ℕ, _+_, _^_, _<_, _≤_}
+use Prim.Native.Nat.{ℕ, _+_, _<_, _≤_}
 use native.Mathlib.Omega.{arith}
 use mathlib.Core.Path.{_≡_, ap, ap₂, _∙_}
 use mathlib.Core.Bool.{true, false, _||_}
@@ -13,7 +13,7 @@ use lib.ListN.{length, replicate}
 use Rattle.refusals.specs.Refusal.{first}
 use Rattle.refusals.specs.Call.{Answered, front}
 use Rattle.refusals.proofs.Calls.{answered-done, head-is}
-use Rattle.octets.specs.Bits.{bitOf, listed, size, stored}
+use Rattle.octets.specs.Bits.{bitOf, size, stored}
 use Rattle.octets.proofs.Listed.{listed-ext}
 use Rattle.octets.proofs.Stored.{bitOf-lt, stored-ext, bit-of-stored-front}
 use Rattle.octets.proofs.Xored.{xor-twice}

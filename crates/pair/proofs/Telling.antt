@@ -1,13 +1,12 @@
 -- The padded string of f9 tells what it was made of: two that are the same have the same message, of the same length, and the same inputs.
 -- Assumes nothing.
-use Prim.Native.Nat.{ℕ, _+_, _-_, _%_, _^_, _<_, _≤_}
+use Prim.Native.Nat.{ℕ, _+_, _-_, _^_, _<_, _≤_}
 use native.Mathlib.Decide.{decLt}
-use native.Mathlib.Nat.{div-one, mod-eq-of-lt}
 use native.Mathlib.Omega.{arith}
 use mathlib.Core.Path.{_≡_, sym, ap, _∙_}
 use mathlib.Core.List.{List}
 use lib.ListN.{getD}
-use Rattle.octets.specs.Bits.{bitAt, bitOf, number}
+use Rattle.octets.specs.Bits.{bitAt, bitOf}
 use Rattle.octets.proofs.Number.{number-ext, number-whole}
 use Rattle.pair.specs.declared.F9Inputs.{F9Inputs}
 use Rattle.pair.specs.F9.{padded}

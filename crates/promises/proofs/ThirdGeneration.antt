@@ -1,18 +1,18 @@
 -- The third generation pair. Assumes nothing.
-use Prim.Native.Nat.{ℕ, _+_, _-_, _*_, _%_, _≤_, _<_}
+use Prim.Native.Nat.{ℕ, _+_, _-_, _≤_}
 use native.Mathlib.Omega.{arith}
 use mathlib.Core.Path.{_≡_, refl, sym, ap, ap₂, _∙_}
 use mathlib.Core.Bool.{Bool, true, false, cond}
 use mathlib.Core.List.{List, [], _∷_, _++_}
 use borrow.Author.Tests.{eqb-true, eq-eqb, ne-eqb, le-ltb, ltb-false}
-use lib.Dec.{T, eqb, ltb}
+use lib.Dec.{eqb}
 use lib.ListN.{length, getD, drop, length-append}
 use Rattle.refusals.specs.Refusal.{Row, first, rowAt}
 use Rattle.refusals.specs.Call.{Answered, outcome, front, puts, tells}
 use Rattle.refusals.proofs.Calls.{answered-done, head-is}
 use Rattle.refusals.proofs.Laws.{then-and-only-then}
 use Rattle.refusals.proofs.Tests.{by-test}
-use Rattle.octets.specs.Bits.{bitOf, size, stored}
+use Rattle.octets.specs.Bits.{bitOf, size}
 use Rattle.octets.proofs.Stored.{bitOf-lt, length-stored, front-stored}
 use Rattle.pair.specs.declared.F8Inputs.{F8Inputs}
 use Rattle.pair.specs.declared.F9Inputs.{F9Inputs}
@@ -23,7 +23,7 @@ use Rattle.pair.proofs.Padded.{one-bit, zero-bit, length-padded}
 use Rattle.pair.proofs.Telling.{bits-told, message-told, count-told, fresh-told, direction-told}
 use Rattle.pair.proofs.Laws.{f8Bit-lt, f8-back, f8-same, f9-same, f8-done, f9-done}
 use Rattle.promises.specs.BitForBit.{HoldsBits}
-use Rattle.promises.specs.ThirdGeneration.{BeginAlike, Confidentiality, Fits, Told, Integrity, ThirdGeneration}
+use Rattle.promises.specs.ThirdGeneration.{BeginAlike, Confidentiality, Integrity, ThirdGeneration}
 use Rattle.promises.proofs.Holding.{holds-bits}
 
 -- ---- f8

@@ -2,20 +2,18 @@
 -- octet are cleared.
 -- Assumes nothing.
 use borrow.Author.Needs.{needs}
-use Prim.Native.Nat.{ℕ, _+_, _-_, _*_, _≤_, _<_}
+use Prim.Native.Nat.{ℕ, _+_, _-_, _≤_, _<_}
 use native.Mathlib.Omega.{arith}
 use mathlib.Core.Path.{_≡_, refl, sym, ap, ap₂, _∙_}
 use mathlib.Core.List.{List, _++_}
 use denote.Ref.{now}
 use lib.Bits.{bitXor, xor-lt}
-use lib.ListN.{length, getD, take, drop, set}
+use lib.ListN.{length, getD, drop, set}
 use lib.Seq.{length-take-le}
 use Rattle.refusals.specs.Call.{front}
-use Rattle.octets.specs.Bits.{bitAt, bitOf, part, octet, listed, size, stored}
-use Rattle.octets.specs.Xor.{xored}
-use Rattle.octets.proofs.Listed.{length-listed, length-listed-front, getD-listed-front}
+use Rattle.octets.specs.Bits.{bitAt, bitOf, part, octet, listed, size}
+use Rattle.octets.proofs.Listed.{length-listed-front, getD-listed-front}
 use Rattle.octets.proofs.Stored.{part-in, part-lt, bitOf-lt, stored-cleared, stored-ext, front-stored}
-use Rattle.octets.proofs.Xored.{xor-done}
 use Rattle.kgcore.specs.Kgcore.{keyBit}
 use Rattle.kgcore.proofs.Laws.{kgcore-done, keyBit-lt}
 use Rattle.pair.specs.F8.{f8Core, f8Bit, f8Output}

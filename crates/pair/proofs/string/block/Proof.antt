@@ -1,13 +1,12 @@
 -- `pair::string::block` meets its contract: COUNT and FRESH, a block of the message alone, the 1 alone, or what is left of the message and its ending.
 -- Assumes nothing.
 use borrow.Author.Needs.{needs}
-use Prim.Native.Nat.{ℕ, _+_, _-_, _*_, _^_, _≤_, _<_}
+use Prim.Native.Nat.{ℕ, _+_, _-_, _*_, _^_}
 use native.Mathlib.Omega.{arith}
-use mathlib.Core.Path.{_≡_, refl, sym, ap, ap₂, _∙_}
+use mathlib.Core.Path.{_≡_, sym, ap, _∙_}
 use mathlib.Core.List.{List}
 use denote.Ref.{now}
-use lib.ListN.{length}
-use Rattle.octets.specs.Bits.{bitOf, number, size}
+use Rattle.octets.specs.Bits.{bitOf, size}
 use Rattle.octets.proofs.Number.{number-ext}
 use Rattle.pair.specs.F9.{padded, blockOf}
 use Rattle.pair.proofs.Blocks.{block-lt, first-block, message-block, one-block, full-block, ended-block}

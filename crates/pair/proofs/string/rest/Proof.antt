@@ -1,13 +1,13 @@
 -- `pair::string::rest` meets its contract: the bits are cut to the front of eight zero octets.
 -- Assumes nothing.
 use borrow.Author.Needs.{needs}
-use Prim.Native.Nat.{ℕ, _+_}
+use Prim.Native.Nat.{ℕ}
 use native.Mathlib.Omega.{arith}
-use mathlib.Core.Path.{_≡_, refl, ap, _∙_}
+use mathlib.Core.Path.{ap, _∙_}
 use mathlib.Core.List.{List}
 use denote.Ref.{now}
 use lib.ListN.{replicate}
-use Rattle.octets.specs.Bits.{bitOf, part, number, size}
+use Rattle.octets.specs.Bits.{bitOf, size}
 use Rattle.octets.proofs.Cutting.{cut-done}
 use Rattle.octets.proofs.Number.{number-ext}
 use Rattle.octets.proofs.Stored.{bitOf-lt, front-stored}

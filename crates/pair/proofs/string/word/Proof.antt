@@ -1,13 +1,13 @@
 -- `pair::string::word` meets its contract: each turn of the loop appends the eight bits of the next octet. The measure is what is left of the eight octets.
 -- Assumes nothing.
 use borrow.Author.Needs.{needs}
-use Prim.Native.Nat.{ℕ, _+_, _-_, _*_, _/_, _^_, _≤_, _<_}
+use Prim.Native.Nat.{ℕ, _+_, _-_, _*_, _^_, _≤_, _<_}
 use native.Mathlib.Nat.{lt-of-lt-of-le}
 use native.Mathlib.Omega.{arith}
 use mathlib.Core.Path.{_≡_, refl, sym, ap, subst, _∙_}
 use mathlib.Core.List.{List}
 use denote.Ref.{now}
-use lib.ListN.{length, getD}
+use lib.ListN.{getD}
 use lib.Pow.{pow-mono}
 use Rattle.octets.specs.Bits.{bitOf, number, octet}
 use Rattle.octets.proofs.Number.{number-ext, number-add, number-lt}
