@@ -2,13 +2,13 @@
 -- COUNT, FRESH, MESSAGE, DIRECTION, a 1 and zeros, to a multiple of 64 bits; A0 = B0 = 0, Ai = KASUMI(A(i-1) xor PSi) and Bi = B(i-1) xor Ai, for each
 -- block PSi, i from 1; and the code, MAC-I, is the left half of KASUMI(B) under the key xor KM. Assumes nothing.
 use Prim.Native.Nat.{ℕ, zero, suc, _+_, _-_, _*_, _/_, _%_}
-use mathlib.Core.Bool.{Bool, not}
+use mathlib.Core.Bool.{Bool, false, not}
 use mathlib.Core.List.{List, [], _∷_, _++_}
 use lib.Bits.{bitXor}
 use lib.Dec.{eqb, ltb}
 use lib.ListN.{length, getD, replicate}
 use Rattle.refusals.specs.Refusal.{Row}
-use Rattle.refusals.specs.Call.{Call, tells, says}
+use Rattle.refusals.specs.Call.{Call, noCandidate, tells}
 use Rattle.octets.specs.Bits.{bitAt, bitOf, number, listed, size}
 use Rattle.octets.specs.Xor.{xored}
 use Rattle.kasumi.specs.Kasumi.{left, kasumi}
@@ -77,6 +77,12 @@ f9Order inputs key message bits =
 abbrev pub f9Call : F9Inputs → List ℕ → List ℕ → ℕ → Call (Unit {0})
 f9Call inputs key message bits = tells (f9Order inputs key message bits) (f9Code inputs key message bits ∷ [])
 
--- pair::check_code answers whether a code is the message's; where it is refused, no
+-- pair::check_code says whether a code is the message's: yes or no, and no where it is refused
 abbrev pub checkCall : F9Inputs → List ℕ → List ℕ → ℕ → ℕ → Call Bool
-checkCall inputs key message bits code = says (f9Order inputs key message bits) (eqb (f9Code inputs key message bits) code)
+checkCall inputs key message bits code = record {
+  order = f9Order inputs key message bits;
+  numbers = [];
+  candidateWith = noCandidate;
+  before = false;
+  after = eqb (f9Code inputs key message bits) code;
+}

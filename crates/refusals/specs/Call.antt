@@ -14,7 +14,7 @@ front result output = result ++ drop (length result) output
 
 -- one call with all that it is given. Where no cause of `order` holds, it hands out `numbers` and leaves what it is lent as `after`. Where it is
 -- refused, every number is 0, but that the first is a candidate, given all the same with some refusals, `candidateWith`; and what it is lent stays as
--- `before`: the state and the octets of an output as they were given, and for a call that makes a state the state that no call takes, for one that says yes or no no
+-- `before`: the state and the octets of an output as they were given, and for a call that makes a state the state that no call takes
 pub record Call (Lent : Type 0) : Type 0 where
   pub order : List Row
   pub numbers : List ℕ
@@ -52,10 +52,6 @@ putsTwo order results outputs = record {
 -- a call that makes a state, or hands back, when refused, the state that no call takes
 abbrev pub makes : {State : Type 0} → List Row → State → State → Call State
 makes order refused made = record { order = order; numbers = []; candidateWith = noCandidate; before = refused; after = made }
-
--- a call that says yes or no, and no when refused
-abbrev pub says : List Row → Bool → Call Bool
-says order answer = record { order = order; numbers = []; candidateWith = noCandidate; before = false; after = answer }
 
 -- numbers put to 0, but for the first where it is a candidate that is given
 abbrev pub zeros : Bool → List ℕ → List ℕ
