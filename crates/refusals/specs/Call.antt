@@ -100,7 +100,7 @@ pub data PublicCall : Type 1 where
   function : {Back : Type 0} → Back → PublicCall
   given : {A : Type 0} → (A → PublicCall) → PublicCall
 
--- calls of one to five inputs
+-- calls of one to six inputs
 abbrev pub call1 : {Lent A : Type 0} → (A → Call Lent) → PublicCall
 call1 of = given (λ a. call (of a))
 
@@ -115,6 +115,9 @@ call4 of = given (λ a. call3 (of a))
 
 abbrev pub call5 : {Lent A B C D E : Type 0} → (A → B → C → D → E → Call Lent) → PublicCall
 call5 of = given (λ a. call4 (of a))
+
+abbrev pub call6 : {Lent A B C D E F : Type 0} → (A → B → C → D → E → F → Call Lent) → PublicCall
+call6 of = given (λ a. call5 (of a))
 
 -- what holds of a public call whatever it is given; of a function there is no more to say than that its contract is an equation
 abbrev pub Always : ((Lent : Type 0) → Call Lent → Type 0) → PublicCall → Type 0

@@ -1,6 +1,6 @@
 // The refusal numbers of document 01, named once. A call answers 0 where nothing is refused.
 
-// The key is neither 8 octets nor 16; of KASUMI, KGCORE, f8 and f9, not 16.
+// The key is neither 8 octets nor 16; of KASUMI, KGCORE, f8, f9, AES and MILENAGE, not 16. Of MILENAGE also OP, OPc or RAND is not 16 octets.
 pub const KEY: u8 = 1;
 
 // An input is above its range, or a service number is not assigned.
@@ -12,7 +12,8 @@ pub const SIZE: u8 = 3;
 // A lent output is shorter than the result.
 pub const ROOM: u8 = 4;
 
-// A frame is under 7 octets, its L is outside 5 to 1,524, or it is not L + 2 octets; a message of f8 or f9 is shorter than its bits.
+// A frame is under 7 octets, its L is outside 5 to 1,524, or it is not L + 2 octets; a message of f8 or f9 is shorter than its bits;
+// a block of AES is not 16 octets; SQN is not 6 octets, or AMF not 2.
 pub const LENGTH: u8 = 5;
 
 // A frame's version is not 1.
