@@ -1,5 +1,6 @@
 -- What `demo` writes for a whole script: `put_heading`, `new_play`, `hear` for each octet of the script, then `finish`. Assumes nothing.
 use Prim.Native.Nat.{ℕ, _<_}
+use native.Mathlib.Omega.{arith}
 use mathlib.Core.Path.{_≡_, sym, ap, ap₂, _∙_}
 use mathlib.Core.List.{List, _++_}
 use lib.Dec.{lit≤}
@@ -9,17 +10,17 @@ use Rattle.lines.specs.Hearing.{tooLong}
 use Rattle.lines.specs.Lines.{Run}
 use Rattle.lines.proofs.Hearing.{LongAlike}
 use Rattle.lines.proofs.Run.{run-writes-answers}
+use Rattle.lines.proofs.Placed.{written-text}
 use Rattle.demo.specs.declared.play.Stage.{Stage}
 use Rattle.demo.specs.declared.play.Play.{Play}
 use Rattle.demo.specs.Acts.{Step, doneFor, obeyed}
 use Rattle.demo.specs.Play.{answer, after, demoRules, standing, newStage, newPlay, heading, demoOutput}
 use Rattle.demo.proofs.Lines.{is-long}
-use Rattle.demo.proofs.Texts.{written-text}
 
 -- a line that is too long is answered, and changes the stage, like any other that is
-long-same : (stage : Stage) (line : List ℕ) → 48 < length line → obeyed stage line ≡ obeyed stage tooLong
+long-same : (stage : Stage) (line : List ℕ) → 160 < length line → obeyed stage line ≡ obeyed stage tooLong
 unfolding tooLong obeyed
-long-same stage line long = ap (doneFor stage line) (sym (is-long line long)) ∙ ap (doneFor stage tooLong) (is-long tooLong (lit≤ tt))
+long-same stage line long = ap (doneFor stage line) (sym (is-long line (omega arith))) ∙ ap (doneFor stage tooLong) (is-long tooLong (lit≤ tt))
 
 pub demo-alike : LongAlike demoRules
 unfolding answer after

@@ -11,7 +11,7 @@ use Rattle.refusals.specs.Call.{Outcome, Answered}
 use Rattle.refusals.proofs.Tests.{by-test}
 use Rattle.lines.specs.Text.{isHex, hexOrder, hexOctets, octetsOfHexCall, decimalText, AtFront, Added}
 use Rattle.lines.proofs.Callers.{put-done, hex-fits, hex-read}
-use Rattle.lines.proofs.Placed.{at-front-added}
+use Rattle.lines.proofs.Placed.{added-more, at-front-added, written-text}
 use Rattle.lines.proofs.Text.{length-hexOctets}
 use Rattle.numbering.specs.Numbering.{width}
 use Rattle.sender.specs.declared.Sender.{Sender}
@@ -26,7 +26,6 @@ use Rattle.demo.specs.Words.{quoted}
 use Rattle.demo.specs.Columns.{column, phoneText, cellColumns, silentColumns}
 use Rattle.demo.specs.Ends.{frameRoom, numberIn, phoneAnswer, sealedFrame, phoneAfter, cellAnswer, openedText, frameKept, shelved}
 use Rattle.demo.specs.Acts.{Step, handedColumns, passing, losing, keeping, giving, handing, noising, nothing, HandCall, StepCall}
-use Rattle.demo.proofs.Texts.{added-more, written-text}
 
 -- ---- columns joined
 

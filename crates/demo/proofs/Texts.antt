@@ -1,4 +1,4 @@
--- The laws of columns: texts put over and after others, and texts as they are shown.
+-- The laws of columns: a text put over another, and texts as they are shown.
 -- Assumes nothing.
 use Prim.Native.Nat.{ℕ, suc, _+_, _/_, _≤_, _<_}
 use native.Mathlib.Decide.{decLt}
@@ -9,7 +9,7 @@ use mathlib.Core.List.{List, [], _∷_, _++_, append-assoc, append-nil}
 use borrow.Author.Tests.{eq-eqb, ne-eqb}
 use lib.Dec.{lit≤}
 use lib.ListN.{length, getD, take, drop, set, replicate, length-append, length-drop, take-append-drop}
-use lib.Seq.{length-take-le, take-append-seam, take-suc, take-at, drop-at, drop-drop, drop-append-le, take-length}
+use lib.Seq.{length-take-le, take-suc, take-at, drop-at, drop-drop, drop-append-le, take-length}
 use Rattle.refusals.specs.Call.{front}
 use Rattle.octets.proofs.Listed.{front-store}
 use Rattle.lines.specs.Text.{decimalText, AtFront, Added}
@@ -17,7 +17,7 @@ use Rattle.lines.proofs.Digits.{within-both, within-below, within-above}
 use Rattle.lines.proofs.InDecimal.{decimal-one, length-more}
 use Rattle.demo.specs.Columns.{column, shown, shownText, textColumn}
 
--- ---- a text over another, and a text after another
+-- ---- a text over another
 
 module _ {a b before middle after : List ℕ} {place end last : ℕ} (room : place + length a ≤ length before) (one : Added a before place end middle) where
   -- a shorter text put at the same place leaves the rest of the longer one
@@ -38,34 +38,7 @@ module _ {a b before middle after : List ℕ} {place end last : ℕ} (room : pla
             (sym (append-assoc b (drop (length b) a) kept) ∙ ap (λ (n : ℕ). (b ++ drop (length b) a) ++ drop (place + n) before) (sym whole));
       }
 
-  -- a text put from where another ends goes on with it
-  pub added-more : Added b middle end last after → Added (a ++ b) before place last after
-  added-more other =
-      let head : length (take place before) ≡ place = length-take-le place before (omega arith) in
-      let sofar : List ℕ = take place before ++ a in
-      let kept : List ℕ = drop (place + length a) before in
-      let long : length sofar ≡ end = simp length-append (omega (arith, one .end-is)) in
-      let both : place + length a + length b ≡ place + length (a ++ b) = simp length-append (omega arith) in
-      let is : middle ≡ sofar ++ kept = one .output-is ∙ sym (append-assoc (take place before) a kept) in
-      record {
-        end-is = simp length-append (omega (arith, one .end-is, other .end-is));
-        output-is =
-            other .output-is
-            ∙ ap₂ (λ (p q : List ℕ). p ++ (b ++ q))
-            (ap (take end) is ∙ take-at sofar kept end long)
-            (sym (drop-drop (length b) end middle) ∙ ap (λ (l : List ℕ). drop (length b) (drop end l)) is ∙ ap (drop (length b)) (drop-at sofar kept end long)
-            ∙ drop-drop (length b) (place + length a) before ∙ ap (λ (n : ℕ). drop n before) both)
-            ∙ append-assoc (take place before) a (b ++ drop (place + length (a ++ b)) before)
-            ∙ ap (λ (l : List ℕ). take place before ++ l) (sym (append-assoc a b (drop (place + length (a ++ b)) before)));
-      }
-
--- what is written at the front is the text
-pub written-text : {text before : List ℕ} {written : ℕ} {after : List ℕ} → AtFront text before written after → take written after ≡ text
-unfolding front
-written-text {text} {before} put =
-    ap₂ (λ (n : ℕ) (l : List ℕ). take n l) (put .written-is) (put .output-is) ∙ take-append-seam text (drop (length text) before)
-
--- and lies within the output
+-- what is written at the front lies within the output
 pub front-within : {text before : List ℕ} {written : ℕ} {after : List ℕ} → AtFront text before written after → written ≤ length after
 unfolding front
 front-within {text} {before} put = omega (arith, put .written-is, ap length (put .output-is), length-append text (drop (length text) before))

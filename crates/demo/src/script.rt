@@ -9,6 +9,9 @@ use crate::acts;
 use crate::acts::Stepped;
 use crate::play::Stage;
 
+// The most octets of a line of a script.
+const LONGEST: usize = 48;
+
 // Why a line is bad.
 pub(crate) enum Why {
     Long,
@@ -164,7 +167,7 @@ fn asked_command(line: &[u8]) -> Asked
 fn asked_by(line: &[u8]) -> Asked
     ensures { λ r. ⌜ r ≡ asked (now (line .entry)) ⌝ }
 {
-    if lines::LONGEST < line.len() {
+    if LONGEST < line.len() {
         return Asked::Bad(Why::Long);
     }
     if line.len() == 0 {

@@ -12,13 +12,13 @@ use Rattle.lines.proofs.Placed.{at-front-nothing}
 use Rattle.lines.proofs.Text.{put-short, put-fits}
 
 -- the line heard, where it is kept whole, and where it is too long
-pub line-kept : (heard : Heard) → heard .count ≤ 48 → heardLine heard ≡ take (heard .count) (heard .octets)
+pub line-kept : (heard : Heard) → heard .count ≤ 160 → heardLine heard ≡ take (heard .count) (heard .octets)
 unfolding heardLine
-line-kept heard short = rw (le-leb (heard .count) 48 short)
+line-kept heard short = rw (le-leb (heard .count) 160 short)
 
-pub line-too-long : (heard : Heard) → 48 < heard .count → heardLine heard ≡ tooLong
+pub line-too-long : (heard : Heard) → 160 < heard .count → heardLine heard ≡ tooLong
 unfolding heardLine
-line-too-long heard long = rw (lt-leb (heard .count) 48 long)
+line-too-long heard long = rw (lt-leb (heard .count) 160 long)
 
 module _ {S : Type 0} (rules : Rules S) (at : Standing S) {before : List ℕ} where
   -- where there is no room nothing happens

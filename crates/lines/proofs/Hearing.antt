@@ -21,31 +21,31 @@ use Rattle.lines.proofs.Digits.{from-place}
 
 -- ---- the line so far
 
--- what is heard holds a line: the line itself where it has at most 48 octets, and else that it is too long
+-- what is heard holds a line: the line itself where it has at most 160 octets, and else that it is too long
 record Holds (heard : Heard) (line : List ℕ) : Type 0 where
-  size : length (heard .octets) ≡ 48
-  count-short : length line ≤ 48 → heard .count ≡ length line
-  octets-short : length line ≤ 48 → take (heard .count) (heard .octets) ≡ line
-  count-long : 48 < length line → heard .count ≡ 49
+  size : length (heard .octets) ≡ 160
+  count-short : length line ≤ 160 → heard .count ≡ length line
+  octets-short : length line ≤ 160 → take (heard .count) (heard .octets) ≡ line
+  count-long : 160 < length line → heard .count ≡ 161
 
 nothing-held : Holds silence []
 unfolding silence
 nothing-held = record { size = refl; count-short = λ _. refl; octets-short = λ _. refl; count-long = λ long. absurd (not-le-of-lt long (lit≤ tt)) }
 
-kept-place : (heard : Heard) (octet : ℕ) → heard .count < 48
+kept-place : (heard : Heard) (octet : ℕ) → heard .count < 160
     → kept heard octet ≡ record { octets = set (heard .octets) (heard .count) octet; count = heard .count + 1 }
 unfolding kept
-kept-place heard octet place = rw (lt-ltb (heard .count) 48 place)
+kept-place heard octet place = rw (lt-ltb (heard .count) 160 place)
 
-kept-full : (heard : Heard) (octet : ℕ) → 48 ≤ heard .count → kept heard octet ≡ record { octets = heard .octets; count = 49 }
+kept-full : (heard : Heard) (octet : ℕ) → 160 ≤ heard .count → kept heard octet ≡ record { octets = heard .octets; count = 161 }
 unfolding kept
-kept-full heard octet full = rw (le-ltb (heard .count) 48 full)
+kept-full heard octet full = rw (le-ltb (heard .count) 160 full)
 
 -- one octet more
 one-more : (heard : Heard) (line : List ℕ) (octet : ℕ) → Holds heard line → Holds (kept heard octet) (line ++ octet ∷ [])
 one-more heard line octet holds =
     let longer : length (line ++ octet ∷ []) ≡ length line + 1 = length-append line (octet ∷ []) in
-    elim (decLt (length line) 48) [
+    elim (decLt (length line) 160) [
       | yes place ↦
           let at : heard .count ≡ length line = holds .count-short (omega arith) in
           rw (kept-place heard octet (omega arith))
@@ -58,7 +58,7 @@ one-more heard line octet holds =
             count-long = λ long. absurd (omega arith);
           })
       | no full ↦
-          rw (kept-full heard octet (elim (decLe (length line) 48) [ yes short ↦ omega (arith, holds .count-short short) | no long ↦ omega (arith, holds .count-long (omega arith)) ]))
+          rw (kept-full heard octet (elim (decLe (length line) 160) [ yes short ↦ omega (arith, holds .count-short short) | no long ↦ omega (arith, holds .count-long (omega arith)) ]))
           (record {
             size = holds .size;
             count-short = λ short. absurd (omega arith);
@@ -70,7 +70,7 @@ one-more heard line octet holds =
 -- nothing is held exactly where the line is empty
 held-empty : (heard : Heard) (line : List ℕ) → Holds heard line → eqb (heard .count) 0 ≡ eqb (length line) 0
 held-empty heard line holds =
-    elim (decLe (length line) 48) [
+    elim (decLe (length line) 160) [
       | yes short ↦ ap (λ (n : ℕ). eqb n 0) (holds .count-short short)
       | no long ↦ ne-eqb (heard .count) 0 (λ none. omega (arith, holds .count-long (omega arith))) ∙ sym (ne-eqb (length line) 0 (λ none. omega arith))
     ]
@@ -79,14 +79,14 @@ held-empty heard line holds =
 
 -- the rules treat a line that is too long like any other that is too long
 pub record LongAlike {S : Type 0} (rules : Rules S) : Type 0 where
-  pub answer-alike : (state : S) (line : List ℕ) → 48 < length line → rules .answer state line ≡ rules .answer state tooLong
-  pub after-alike : (state : S) (line : List ℕ) → 48 < length line → rules .after state line ≡ rules .after state tooLong
+  pub answer-alike : (state : S) (line : List ℕ) → 160 < length line → rules .answer state line ≡ rules .answer state tooLong
+  pub after-alike : (state : S) (line : List ℕ) → 160 < length line → rules .after state line ≡ rules .after state tooLong
 
 -- so whatever they say of a line is what they say of the line heard
-held-same : {A : Type 0} (of : List ℕ → A) → ((line : List ℕ) → 48 < length line → of line ≡ of tooLong)
+held-same : {A : Type 0} (of : List ℕ → A) → ((line : List ℕ) → 160 < length line → of line ≡ of tooLong)
     → (heard : Heard) (line : List ℕ) → Holds heard line → of (heardLine heard) ≡ of line
 held-same of alike heard line holds =
-    elim (decLe (length line) 48) [
+    elim (decLe (length line) 160) [
       | yes short ↦ ap of (line-kept heard (omega (arith, holds .count-short short)) ∙ holds .octets-short short)
       | no long ↦ ap of (line-too-long heard (omega (arith, holds .count-long (omega arith)))) ∙ sym (alike line (omega arith))
     ]

@@ -6,12 +6,16 @@ use native.Mathlib.Omega.{arith}
 use mathlib.Core.Path.{_≡_, refl, sym, ap, ap₂, subst, _∙_}
 use mathlib.Core.List.{List, [], _∷_, _++_, append-assoc, append-nil}
 use lib.ListN.{length, take, drop, set, length-append, length-drop, drop-of-length-le}
-use lib.Seq.{sets, drop-drop, length-take-le, take-length, take-append-seam, drop-append-add}
+use lib.Seq.{sets, drop-drop, length-take-le, take-length, take-append-seam, drop-append-add, take-at, drop-at}
 use Rattle.refusals.specs.Call.{Answered, front}
 use Rattle.octets.proofs.Listed.{front-store}
 use Rattle.lines.specs.Text.{putTextCall, AtFront, Added}
 use Rattle.lines.proofs.Callers.{room-done}
-use Rattle.lines.proofs.Text.{stored-front}
+use Rattle.lines.proofs.Text.{take-front, stored-front}
+
+-- what is written at the front is the text
+pub written-text : {text before : List ℕ} {written : ℕ} {after : List ℕ} → AtFront text before written after → take written after ≡ text
+written-text {text} {before} put = ap₂ (λ (n : ℕ) (l : List ℕ). take n l) (put .written-is) (put .output-is) ∙ take-front text before
 
 -- nothing is written
 pub at-front-nothing : (before : List ℕ) → AtFront [] before 0 before
@@ -85,6 +89,28 @@ added-octet {text} {before} {place} {end} {after} octet added room =
           ∙ front-store (take place before ++ text) before (place + length text) octet long (omega (arith, added .end-is))
           ∙ ap₂ (λ (l : List ℕ) (n : ℕ). l ++ drop n before) (append-assoc (take place before) text (octet ∷ [])) more
           ∙ append-assoc (take place before) (text ++ octet ∷ []) (drop (place + length (text ++ octet ∷ [])) before);
+    }
+
+-- a text put from where another ends goes on with it
+pub added-more : {a b before middle after : List ℕ} {place end last : ℕ} → place + length a ≤ length before → Added a before place end middle
+    → Added b middle end last after → Added (a ++ b) before place last after
+added-more {a} {b} {before} {middle} {after} {place} {end} room one other =
+    let head : length (take place before) ≡ place = length-take-le place before (omega arith) in
+    let sofar : List ℕ = take place before ++ a in
+    let kept : List ℕ = drop (place + length a) before in
+    let long : length sofar ≡ end = simp length-append (omega (arith, one .end-is)) in
+    let both : place + length a + length b ≡ place + length (a ++ b) = simp length-append (omega arith) in
+    let is : middle ≡ sofar ++ kept = one .output-is ∙ sym (append-assoc (take place before) a kept) in
+    record {
+      end-is = simp length-append (omega (arith, one .end-is, other .end-is));
+      output-is =
+          other .output-is
+          ∙ ap₂ (λ (p q : List ℕ). p ++ (b ++ q))
+          (ap (take end) is ∙ take-at sofar kept end long)
+          (sym (drop-drop (length b) end middle) ∙ ap (λ (l : List ℕ). drop (length b) (drop end l)) is ∙ ap (drop (length b)) (drop-at sofar kept end long)
+          ∙ drop-drop (length b) (place + length a) before ∙ ap (λ (n : ℕ). drop n before) both)
+          ∙ append-assoc (take place before) a (b ++ drop (place + length (a ++ b)) before)
+          ∙ ap (λ (l : List ℕ). take place before ++ l) (sym (append-assoc a b (drop (place + length (a ++ b)) before)));
     }
 
 -- from place 0 on it is an answer

@@ -11,14 +11,13 @@ use Rattle.lines.specs.Hearing.{silence, Rules, Standing, hearing, said,
 use Rattle.lines.specs.Lines.{linesOf, answers, Run, finished, heard-one}
 use Rattle.lines.proofs.Callers.{room-done}
 use Rattle.lines.proofs.Hearing.{saidBy, LongAlike, said-is-answers}
-use Rattle.lines.proofs.Text.{take-front, room-enough}
+use Rattle.lines.proofs.Placed.{written-text}
+use Rattle.lines.proofs.Text.{room-enough}
 
 -- where a text had the room that was asked, it is what stands at the front
 pub with-room : (room : ℕ) (text before : List ℕ) {refusal written : ℕ} {after : List ℕ}
     → Answered (putsText (roomOrder room before) text before) refusal (written ∷ []) after → room ≤ length before → take written after ≡ text
-with-room room text before answered enough =
-    let put = room-done room text before answered enough .1 in
-    ap₂ (λ (n : ℕ) (l : List ℕ). take n l) (put .written-is) (put .output-is) ∙ take-front text before
+with-room room text before answered enough = written-text (room-done room text before answered enough .1)
 
 module _ {S : Type 0} (rules : Rules S) where
   -- ---- what is written

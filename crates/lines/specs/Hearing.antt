@@ -12,22 +12,22 @@ use Rattle.lines.specs.Text.{roomOrder, putsText}
 
 -- nothing heard yet
 unfoldable pub silence : Heard
-silence = record { octets = replicate 48 0; count = 0 }
+silence = record { octets = replicate 160 0; count = 0 }
 
--- one octet more of the line; of a line of more than 48 octets only that it is too long is kept
+-- one octet more of the line; of a line of more than 160 octets only that it is too long is kept
 unfoldable pub kept : Heard → ℕ → Heard
 kept heard octet =
-    cond (ltb (heard .count) 48)
+    cond (ltb (heard .count) 160)
     (record { octets = set (heard .octets) (heard .count) octet; count = heard .count + 1 })
-    (record { octets = heard .octets; count = 49 })
+    (record { octets = heard .octets; count = 161 })
 
 -- the line that stands for every line that is too long
 unfoldable pub tooLong : List ℕ
-tooLong = replicate 49 0
+tooLong = replicate 161 0
 
 -- the line heard
 unfoldable pub heardLine : Heard → List ℕ
-heardLine heard = cond (leb (heard .count) 48) (take (heard .count) (heard .octets)) tooLong
+heardLine heard = cond (leb (heard .count) 160) (take (heard .count) (heard .octets)) tooLong
 
 -- the rules of a program that answers lines: what it answers to a line in a state, the state after the line, and the room that an output must have
 pub record Rules (S : Type 0) : Type 0 where

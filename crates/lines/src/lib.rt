@@ -9,7 +9,7 @@ ghost use Rattle.lines.specs.Text.{AtFront, glyphOf, decimalText, octets
 ghost use Rattle.lines.specs.Hearing.{silence as Hearing·silence, kept as Hearing·kept, tooLong};
 
 // The most octets of a line that is kept whole.
-pub const LONGEST: usize = 48;
+pub const LONGEST: usize = 160;
 
 // The refusal of a text that is no number, and the number's value, which is 0 where refused.
 pub struct Number {
@@ -205,9 +205,9 @@ pub fn put_text(text: &[u8], output: &mut [u8]) -> Put
     Put { refusal: 0, count }
 }
 
-// The line so far. A count above 48 means that the line is too long, which is one line like any other that is too long.
+// The line so far. A count above 160 means that the line is too long, which is one line like any other that is too long.
 pub struct Heard {
-    pub octets: [u8; 48],
+    pub octets: [u8; 160],
     pub count: usize,
 }
 
@@ -215,15 +215,15 @@ pub struct Heard {
 pub fn silence() -> Heard
     ensures { λ r. ⌜ r ≡ Hearing·silence ⌝ }
 {
-    let octets = [0; 48];
+    let octets = [0; 160];
     Heard { octets, count: 0 }
 }
 
 // The line that stands for every line that is too long.
-pub fn too_long() -> [u8; 49]
+pub fn too_long() -> [u8; 161]
     ensures { λ r. ⌜ r ≡ tooLong ⌝ }
 {
-    [0; 49]
+    [0; 161]
 }
 
 // The line with one octet more.

@@ -89,7 +89,7 @@ length-answerText line =
 pub stream-alike : LongAlike streamRules
 unfolding answer tooLong
 stream-alike = record {
-  answer-alike = λ _ line long. ap ended (too-long line long ∙ sym (too-long tooLong (lit≤ tt)));
+  answer-alike = λ _ line long. ap ended (too-long line (omega arith) ∙ sym (too-long tooLong (lit≤ tt)));
   after-alike = λ _ _ _. refl;
 }
 

@@ -139,7 +139,7 @@ length-refusal refusal = length-field (refusalText refusal) 32 (length-either (e
 -- ---- the rules of `walk`
 
 -- a line that is too long is answered, and changes the numbering, like any other that is
-long-same : (line : List ℕ) → 48 < length line → sentOf line ≡ sentOf tooLong
+long-same : (line : List ℕ) → 160 < length line → sentOf line ≡ sentOf tooLong
 unfolding tooLong
 long-same line long = sym (sent-long line (omega arith)) ∙ sent-long tooLong (lit≤ tt)
 

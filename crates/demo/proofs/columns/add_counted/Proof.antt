@@ -6,7 +6,8 @@ use lib.ListN.{length, length-append}
 use mathlib.Core.List.{_++_}
 use native.Mathlib.Omega.{arith}
 use Rattle.lines.specs.Text.{decimalText}
-use Rattle.demo.proofs.Texts.{added-more, column-put, below-thousand}
+use Rattle.lines.proofs.Placed.{added-more}
+use Rattle.demo.proofs.Texts.{column-put, below-thousand}
 use borrow.Author.Needs.{needs}
 use Rattle.demo.proofs.columns.add_counted.Statement.{statement}
 use Rattle.demo.proofs.columns.add_counted.Tie as tie
