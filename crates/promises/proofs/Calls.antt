@@ -7,12 +7,14 @@ use Rattle.refusals.proofs.Calls.{answers, determined, of-all}
 use Rattle.octets.specs.Cut.{cutOrder}
 use Rattle.octets.specs.Xor.{xorOrder}
 use Rattle.kasumi.specs.Kasumi.{kasumiOrder}
+use Rattle.aes.specs.Aes.{keyOrder as Aes·keyOrder, aesOrder}
 use Rattle.kgcore.specs.Kgcore.{kgcoreOrder}
 use Rattle.keystreams.specs.Key.{keyOrder}
 use Rattle.keystreams.specs.A5.{a5Order}
 use Rattle.keystreams.specs.Gea4.{gea4Order}
 use Rattle.pair.specs.F8.{f8Order}
 use Rattle.pair.specs.F9.{f9Order}
+use Rattle.milenage.specs.Calls.{opcOrder, codeOrder, resultOrder}
 use Rattle.numbering.specs.Numbering.{candidateOrder, numberOrder}
 use Rattle.frames.specs.Frame.{lookOrder, headerOrder}
 use Rattle.link.specs.Link.{linkOrder, cipherOrder}
@@ -26,7 +28,7 @@ infixr 5 _⊗_
 pub _⊗_ : {A B : Type 0} → A → B → A × B
 one ⊗ rest = (one, rest)
 
--- whatever a call of one to five inputs is given
+-- whatever a call of one to six inputs is given
 in1 : {A : Type 0} → A → Unit {0}
 in1 a = tt
 
@@ -42,14 +44,17 @@ in4 a b c d = tt
 in5 : {A B C D E : Type 0} → A → B → C → D → E → Unit {0}
 in5 a b c d e = tt
 
+in6 : {A B C D E F : Type 0} → A → B → C → D → E → F → Unit {0}
+in6 a b c d e f = tt
+
 -- the numbers of each call's order are from the table, and no two are the same: computed, whatever the call is given
 abbrev IsOrder : (Lent : Type 0) → Call Lent → Type 0
 IsOrder Lent call = T (isOrder (call .order))
 
 orders : All (Always IsOrder) publicCalls
-unfolding cutOrder xorOrder kasumiOrder kgcoreOrder keyOrder a5Order gea4Order f8Order f9Order candidateOrder numberOrder lookOrder headerOrder linkOrder cipherOrder sealOrder openOrder digitsOrder roomOrder hexOrder
+unfolding cutOrder xorOrder kasumiOrder Aes·keyOrder aesOrder kgcoreOrder keyOrder a5Order gea4Order f8Order f9Order opcOrder codeOrder resultOrder candidateOrder numberOrder lookOrder headerOrder linkOrder cipherOrder sealOrder openOrder digitsOrder roomOrder hexOrder
 orders =
-    tt ⊗ tt ⊗ tt ⊗ in4 ⊗ in3 ⊗ tt ⊗ in1 ⊗ tt ⊗ in2 ⊗ in4 ⊗ in1 ⊗ in3 ⊗ in3 ⊗ in5 ⊗ in5 ⊗ in4 ⊗ in5 ⊗ tt ⊗ tt ⊗ in2 ⊗ tt ⊗ in1 ⊗ tt ⊗ in3 ⊗ tt ⊗ in4 ⊗ in4 ⊗ in4 ⊗ in3 ⊗ in4 ⊗ in3 ⊗ in1 ⊗ in1 ⊗ in2 ⊗ in2 ⊗ in2 ⊗ in2 ⊗ tt ⊗ tt ⊗ tt ⊗ tt
+    tt ⊗ tt ⊗ tt ⊗ in4 ⊗ in3 ⊗ tt ⊗ in1 ⊗ tt ⊗ in2 ⊗ in1 ⊗ tt ⊗ in3 ⊗ in4 ⊗ in1 ⊗ in3 ⊗ in3 ⊗ in5 ⊗ in5 ⊗ in4 ⊗ in5 ⊗ in3 ⊗ in6 ⊗ in6 ⊗ in4 ⊗ in4 ⊗ in4 ⊗ in4 ⊗ in4 ⊗ tt ⊗ tt ⊗ in2 ⊗ tt ⊗ in1 ⊗ tt ⊗ in3 ⊗ tt ⊗ in4 ⊗ in4 ⊗ in4 ⊗ in3 ⊗ in4 ⊗ in3 ⊗ in1 ⊗ in1 ⊗ in2 ⊗ in2 ⊗ in2 ⊗ in2 ⊗ tt ⊗ tt ⊗ tt ⊗ tt
 
 pub all-answer : All (Always (λ Lent call. Answers call)) publicCalls
 all-answer = of-all (λ Lent call order. answers call order) publicCalls orders

@@ -3,6 +3,7 @@ pub mod BenchLaws
 pub mod BitForBit
 pub mod ByTheRule
 pub mod Calls
+pub mod Challenge
 pub mod Examples
 pub mod Frames
 pub mod Holding

@@ -1,19 +1,21 @@
 -- Every public call of every crate, each by the entry that its own contract cites, in one list. The width of the link's window is `width`.
 -- Assumes nothing.
 use mathlib.Core.List.{List, [], _∷_}
-use Rattle.refusals.specs.Call.{PublicCall, function, given, call1, call2, call3, call4, call5}
+use Rattle.refusals.specs.Call.{PublicCall, function, given, call1, call2, call3, call4, call5, call6}
 use Rattle.octets.specs.Bits.{size, firstBits, octetOrZero}
 use Rattle.octets.specs.Cut.{cutCall}
 use Rattle.octets.specs.Xor.{xorCall}
 use Rattle.sboxes.specs.FiTable.{fiTable}
 use Rattle.kasumi.specs.Kasumi.{kasumiCall}
 use Rattle.kasumi.specs.Lent.{roundKeysCall, cipheredBy}
+use Rattle.aes.specs.Aes.{cipher, expandKeyCall, aesCall}
 use Rattle.kgcore.specs.Kgcore.{kgcoreCall}
 use Rattle.keystreams.specs.Key.{prepareKeyCall}
 use Rattle.keystreams.specs.A5.{gsmKind, ecsdKind, a5Call}
 use Rattle.keystreams.specs.Gea4.{gea4Call}
 use Rattle.pair.specs.F8.{f8Call}
 use Rattle.pair.specs.F9.{f9Call, checkCall}
+use Rattle.milenage.specs.Calls.{opcCall, f1Call, f1StarCall, f2Call, f3Call, f4Call, f5Call, f5StarCall}
 use Rattle.numbering.specs.Numbering.{width, start, canArise, numberCall}
 use Rattle.frames.specs.Frame.{looked, lookRefusalCall, headerOf, putHeaderCall}
 use Rattle.link.specs.Link.{linkCanArise, openLinkCall, cipherCall}
@@ -43,6 +45,12 @@ publicCalls =
     function cipheredBy ∷
     -- kasumi::kasumi
     call2 kasumiCall ∷
+    -- aes::expand_key
+    call1 expandKeyCall ∷
+    -- aes::encrypt_block
+    function cipher ∷
+    -- aes::aes
+    call3 aesCall ∷
     -- kgcore::kgcore
     call4 kgcoreCall ∷
     -- keystreams::prepare_key
@@ -59,6 +67,22 @@ publicCalls =
     call4 f9Call ∷
     -- pair::check_code
     call5 checkCall ∷
+    -- milenage::opc
+    call3 opcCall ∷
+    -- milenage::f1
+    call6 f1Call ∷
+    -- milenage::f1_star
+    call6 f1StarCall ∷
+    -- milenage::f2
+    call4 f2Call ∷
+    -- milenage::f3
+    call4 f3Call ∷
+    -- milenage::f4
+    call4 f4Call ∷
+    -- milenage::f5
+    call4 f5Call ∷
+    -- milenage::f5_star
+    call4 f5StarCall ∷
     -- numbering::start
     function start ∷
     -- numbering::can_arise

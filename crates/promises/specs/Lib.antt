@@ -1,6 +1,7 @@
 pub mod BitForBit
 pub mod ByTheRule
 pub mod Calls
+pub mod Challenge
 pub mod Ends
 pub mod Examples
 pub mod NoInputTwice
