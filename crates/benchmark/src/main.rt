@@ -1,6 +1,7 @@
 // Makes one call many times, to be timed: reads WHAT, M and COUNT, and makes COUNT calls under the key 00 01 .. 0F with the numbers 0, 1, 2, .. WHAT is
 // 0 for GEA4 of M octets, 1 for A5/4 of GSM, 2 for a block of KASUMI, 3 for sealing and 4 for opening a frame with a payload of M octets, 5 for f8 and 6
-// for f9 of a message of M bits; M says nothing of 1 and 2. It writes the exclusive or of all octets that were handed out, so that none can be left out.
+// for f9 of a message of M bits, 7 for a full set of MILENAGE, eight calls; M says nothing of 1, 2 and 7. It writes the exclusive or of all octets that
+// were handed out, so that none can be left out.
 ghost use mathlib.Core.Path.{_≡_};
 ghost use Prim.Native.Nat.{_≤_};
 ghost use lib.ListN.{length};
@@ -129,6 +130,81 @@ fn f9(key: &[u8], number: u32, message: &[u8], bits: u32, before: u8) -> u8 {
     before ^ (high / 256) as u8 ^ (high % 256) as u8 ^ (low / 256) as u8 ^ (low % 256) as u8
 }
 
+// OPc and the seven functions of one challenge, whose last two octets go by the number.
+fn milenage(key: &[u8], number: u32, before: u8) -> u8 {
+    let op = [
+        0x10u8,
+        0x11,
+        0x12,
+        0x13,
+        0x14,
+        0x15,
+        0x16,
+        0x17,
+        0x18,
+        0x19,
+        0x1A,
+        0x1B,
+        0x1C,
+        0x1D,
+        0x1E,
+        0x1F,
+    ];
+    let mut rand = [
+        0x20u8,
+        0x21,
+        0x22,
+        0x23,
+        0x24,
+        0x25,
+        0x26,
+        0x27,
+        0x28,
+        0x29,
+        0x2A,
+        0x2B,
+        0x2C,
+        0x2D,
+        0x2E,
+        0x2F,
+    ];
+    rand[14] = 0x2E ^ (number / 0x100 % 0x100) as u8;
+    rand[15] = 0x2F ^ (number % 0x100) as u8;
+    let mut opc = [0u8; 16];
+    milenage::opc(key, &op, &mut opc);
+    let codes = codes(key, &opc, &rand, sum_of(&opc, before));
+    results(key, &opc, &rand, codes)
+}
+
+// f1 and f1*.
+fn codes(key: &[u8], opc: &[u8], rand: &[u8], before: u8) -> u8 {
+    let sqn = [0x30u8, 0x31, 0x32, 0x33, 0x34, 0x35];
+    let amf = [0x40u8, 0x41];
+    let mut code = [0u8; 8];
+    milenage::f1(key, opc, rand, &sqn, &amf, &mut code);
+    let mut other = [0u8; 8];
+    milenage::f1_star(key, opc, rand, &sqn, &amf, &mut other);
+    sum_of(&other, sum_of(&code, before))
+}
+
+// f2 to f5, and f5*.
+fn results(key: &[u8], opc: &[u8], rand: &[u8], before: u8) -> u8 {
+    let mut res = [0u8; 8];
+    milenage::f2(key, opc, rand, &mut res);
+    let mut ck = [0u8; 16];
+    milenage::f3(key, opc, rand, &mut ck);
+    let mut ik = [0u8; 16];
+    milenage::f4(key, opc, rand, &mut ik);
+    let mut ak = [0u8; 6];
+    milenage::f5(key, opc, rand, &mut ak);
+    let mut other = [0u8; 6];
+    milenage::f5_star(key, opc, rand, &mut other);
+    sum_of(
+        &other,
+        sum_of(&ak, sum_of(&ik, sum_of(&ck, sum_of(&res, before)))),
+    )
+}
+
 // One call, and its sum.
 fn one(
     what: u64,
@@ -155,6 +231,9 @@ fn one(
     }
     if what == 6 {
         return f9(key, number, message, m as u32, before);
+    }
+    if what == 7 {
+        return milenage(key, number, before);
     }
     if 1520 < m {
         return before;
@@ -214,7 +293,7 @@ fn space() -> [u8; 65542]
 
 // A line WHAT M COUNT.
 fn answer(line: &[u8]) {
-    let what = number_before(line, b' ', 6);
+    let what = number_before(line, b' ', 7);
     let rest = after(line, b' ');
     let m = number_before(rest, b' ', 65536) as usize;
     let count = number_before(after(rest, b' '), b'\n', 0xFFFF_FFFF) as u32;

@@ -1,5 +1,7 @@
 // Makes any public call: a line of standard input is a call, and a line of standard output everything that it hands out.
 mod bits;
+mod blocks;
+mod challenges;
 mod ciphers;
 mod ends;
 mod fields;
@@ -24,6 +26,12 @@ fn answer(line: &[u8]) -> bool {
         return told;
     }
     if let Answer::Told(told) = messages::answer(line, cursor) {
+        return told;
+    }
+    if let Answer::Told(told) = blocks::answer(line, cursor) {
+        return told;
+    }
+    if let Answer::Told(told) = challenges::answer(line, cursor) {
         return told;
     }
     if let Answer::Told(told) = bits::answer(line, cursor) {
