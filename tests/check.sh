@@ -16,7 +16,7 @@ fail() {
     failed=1
 }
 
-for input in "$tests"/stream/*.in "$tests"/call/*.in "$tests"/walk/*.in "$tests"/demo/*.in; do
+for input in "$tests"/stream/*.in "$tests"/call/*.in "$tests"/walk/*.in "$tests"/demo/*.in "$tests"/challenge/*.in; do
     program=$(basename "$(dirname "$input")")
     output=${input%.in}.out
     if [ ! -f "$output" ]; then
@@ -27,7 +27,7 @@ for input in "$tests"/stream/*.in "$tests"/call/*.in "$tests"/walk/*.in "$tests"
         fail "differs" "$output"
     fi
 done
-for output in "$tests"/stream/*.out "$tests"/call/*.out "$tests"/walk/*.out "$tests"/demo/*.out; do
+for output in "$tests"/stream/*.out "$tests"/call/*.out "$tests"/walk/*.out "$tests"/demo/*.out "$tests"/challenge/*.out; do
     [ -f "${output%.out}.in" ] || fail "no input" "$output"
 done
 exit "$failed"

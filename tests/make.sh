@@ -7,7 +7,7 @@ package=$tests/../second
 cargo build --release --quiet --offline \
     --manifest-path "$package/Cargo.toml" --target-dir "$package/target"
 
-for input in "$tests"/stream/*.in "$tests"/call/*.in "$tests"/walk/*.in "$tests"/demo/*.in; do
+for input in "$tests"/stream/*.in "$tests"/call/*.in "$tests"/walk/*.in "$tests"/demo/*.in "$tests"/challenge/*.in; do
     program=$(basename "$(dirname "$input")")
     "$package/target/release/second" "$program" < "$input" > "${input%.in}.out"
 done

@@ -28,7 +28,7 @@ pub fn report(folder: &Path) -> Result<String, String> {
     differences.extend(inputs_differ(&read("gea.txt")?)?);
 
     let mut lines = String::new();
-    for name in ["kasumi.txt", "a5.txt", "gea.txt", "f8.txt", "f9.txt"] {
+    for name in ["kasumi.txt", "a5.txt", "gea.txt", "f8.txt", "f9.txt", "aes.txt", "milenage.txt"] {
         let published = vectors::calls(&read(name)?)?;
         if published.is_empty() {
             differences.push(format!("{name}: no set"));
@@ -141,8 +141,9 @@ mod tests {
             lines.lines().filter(key).count()
         };
         // The 24 sets of A5/3 and GEA3 are there with their own key and with it doubled; of KASUMI
-        // four sets give the round keys too; those of f8 and f9 are two lines each.
-        let whole = 9 + 4 + 31 + 13 + 2 * 5 + 2 * 11;
+        // four sets give the round keys too; those of f8 and f9 are two lines each, those of MILENAGE
+        // eight.
+        let whole = 9 + 4 + 31 + 13 + 2 * 5 + 2 * 11 + 2 + 8 * 19;
         assert_eq!((with_key(16), with_key(32)), (24, whole));
         assert_eq!(lines.lines().count(), 24 + whole);
     }

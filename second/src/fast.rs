@@ -1,31 +1,43 @@
 //! KASUMI and what stands on it the ordinary way, to measure the product against: numbers in place
 //! of bit lists, the round keys prepared once a key, S7 a table. S9 is a table too, or its gate
-//! equations at each look-up, which is the club's baseline (document 02, item 9).
+//! equations at each look-up, which is the club's baseline (document 02, item 9); so it is with the
+//! S-box of AES, which MILENAGE stands on.
 //! Follows 3GPP TS 35.202, source document 004, clauses 4, 6 and 7 and annex A, 3GPP TS 35.201 (f9),
 //! and document 01, "The link".
 
+mod milenage;
+
 use crate::gates::{S7, S9};
 use crate::product::pair::{F8Inputs, F9Inputs};
+use milenage::{full_set, RoundTable};
 
 const C: [u16; 8] = [0x0123, 0x4567, 0x89AB, 0xCDEF, 0xFEDC, 0xBA98, 0x7654, 0x3210];
 
-/// Where an entry of S7 and of S9 comes from.
+/// Where an entry of S7 and of S9 comes from, and one of the S-box of AES.
 pub trait Boxes {
     fn s7(&self, seven: u16) -> u16;
     fn s9(&self, nine: u16) -> u16;
+    fn s(&self, octet: u8) -> u8;
+    /// What MixColumns makes of that entry in row 0.
+    fn column(&self, octet: u8) -> u32;
 }
 
 const FITS: &str = "an S-box has an entry for each input";
 
-/// Both as tables, made once from the equations.
+/// All as tables, made once from the equations.
 pub struct Tables {
     s7: [u16; 128],
     s9: [u16; 512],
+    aes: RoundTable,
 }
 
 impl Tables {
     pub fn of_equations() -> Tables {
-        Tables { s7: S7.table().try_into().expect(FITS), s9: S9.table().try_into().expect(FITS) }
+        Tables {
+            s7: S7.table().try_into().expect(FITS),
+            s9: S9.table().try_into().expect(FITS),
+            aes: RoundTable::computed(),
+        }
     }
 }
 
@@ -37,9 +49,17 @@ impl Boxes for Tables {
     fn s9(&self, nine: u16) -> u16 {
         self.s9[usize::from(nine)]
     }
+
+    fn s(&self, octet: u8) -> u8 {
+        self.aes.entry(octet)
+    }
+
+    fn column(&self, octet: u8) -> u32 {
+        self.aes.column(octet)
+    }
 }
 
-/// S7 as a table, S9 by its gate equations at each look-up.
+/// S7 as a table, S9 by its gate equations and the S-box of AES computed at each look-up.
 pub struct Equations {
     s7: [u16; 128],
 }
@@ -165,6 +185,14 @@ impl Boxes for Equations {
             ^ x3 & x8;
         let bits = [y8, y7, y6, y5, y4, y3, y2, y1, y0];
         bits.into_iter().fold(0, |entry, bit| entry << 1 | bit)
+    }
+
+    fn s(&self, octet: u8) -> u8 {
+        milenage::s_box(octet)
+    }
+
+    fn column(&self, octet: u8) -> u32 {
+        milenage::column_of(milenage::s_box(octet))
     }
 }
 
@@ -351,12 +379,14 @@ pub enum What {
     Open,
     F8,
     F9,
+    Milenage,
 }
 
 impl What {
     /// By its number in a line of `benchmark`.
     pub fn of(number: &str) -> Option<What> {
-        let all = [What::Gea4, What::Gsm, What::Block, What::Seal, What::Open, What::F8, What::F9];
+        let frames = [What::Gea4, What::Gsm, What::Block, What::Seal, What::Open];
+        let all = [&frames[..], &[What::F8, What::F9, What::Milenage]].concat();
         all.get(number.parse::<usize>().ok()?).copied()
     }
 }
@@ -366,7 +396,7 @@ const IOV: u32 = 0x0123_4567;
 
 /// INPUT of a frame of the benchmark's link.
 fn input_of(number: u32) -> u32 {
-    (IOV ^ (SAPI << 27) + (1 << 31)).wrapping_add(number)
+    (IOV ^ ((SAPI << 27) + (1 << 31))).wrapping_add(number)
 }
 
 /// The octets that hold M bits, of a message in which octet i is i modulo 256.
@@ -405,6 +435,7 @@ fn one<B: Boxes>(
             let inputs = F9Inputs { count: number, fresh: 0, direction: 0 };
             f9(boxes, key, inputs, message, m).to_be_bytes().to_vec()
         }
+        What::Milenage => full_set(boxes, key, number),
     }
 }
 

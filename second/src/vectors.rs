@@ -2,6 +2,8 @@
 //! Follows the form that the folder `vectors` describes: sets of `name = value` lines
 //! between empty lines, `#` before a comment.
 
+mod milenage;
+
 use crate::bits::{of_number, of_octets, to_number, Bits};
 use crate::kasumi::kasumi;
 use crate::lines::{based, hex, octets};
@@ -16,6 +18,8 @@ pub const A5: &str = include_str!("../../vectors/a5.txt");
 pub const GEA: &str = include_str!("../../vectors/gea.txt");
 pub const F8: &str = include_str!("../../vectors/f8.txt");
 pub const F9: &str = include_str!("../../vectors/f9.txt");
+pub const AES: &str = include_str!("../../vectors/aes.txt");
+pub const MILENAGE: &str = include_str!("../../vectors/milenage.txt");
 
 /// A call, and its answer where the set gives one.
 pub struct Published {
@@ -106,6 +110,10 @@ pub fn calls(file: &str) -> Result<Vec<Published>, String> {
             calls.extend(f8(&set)?);
         } else if set.has("fresh") {
             calls.extend(f9(&set)?);
+        } else if set.has("plaintext") {
+            calls.push(milenage::aes(&set)?);
+        } else if set.has("rand") {
+            calls.extend(milenage::milenage(&set)?);
         } else {
             calls.extend(chain(&set)?);
             calls.extend(round_keys(&set)?);

@@ -12,7 +12,8 @@ const NO_NUMBERS: &str = " - -1 +1 1x x1 0x 0X1 00x1 0x0x1 1,0 1.0 1_0 A 0xG 0x-
 /// Lines between bars that are no call: nothing, names alone, other names.
 const NO_CALLS: &str = "| |  |\r|\t|?|-|0|call|stream|walk|walk 5|gea3|look_refusal 00050131001A55\
     |kasumi|cut|start |start  | start|start 0|start -|start\r|START|starts|star|look|look |look  \
-    |decimal 3132|silence|walks_start|bench_start|f8|f9|f8 |check_code|check|f";
+    |decimal 3132|silence|walks_start|bench_start|f8|f9|f8 |check_code|check|f\
+    |aes|expand_key|encrypt_block|milenage|challenge|opc|op|f0|f1|f1*|f2|f3|f4|f5|f5*|f6|f2_star";
 
 /// A form taken apart: the name, and the type of each field.
 struct Form {
@@ -23,7 +24,7 @@ struct Form {
 enum Type {
     /// Octets, and some that do.
     Octets(&'static str),
-    /// So many octets and no others: the key of a state, what the rounds are lent.
+    /// So many octets and no others: the key of a state, what the rounds are lent, a block of AES.
     Exactly(usize),
     /// A number of octets, with the largest.
     Size(u64),
@@ -66,10 +67,12 @@ impl Form {
 impl Type {
     fn of(field: &str) -> Type {
         match field.split_once(':') {
-            None if field == "KEY" => Type::Octets(KEY),
+            None if ["KEY", "OP", "OPC", "RAND", "BLOCK"].contains(&field) => Type::Octets(KEY),
+            None if field == "SQN" => Type::Octets("ff9BB4D0b607"),
             None if field == "FRAME" => Type::Octets("00050111000155"),
             None => Type::Octets("c0DE"),
-            Some((_, "key")) => Type::Exactly(16),
+            Some((_, "key" | "block")) => Type::Exactly(16),
+            Some((_, "words")) => Type::Exactly(176),
             Some((_, "table")) => Type::Exactly(1_280),
             Some((_, "keys")) => Type::Exactly(128),
             Some((_, "size")) => Type::Size(65_600),

@@ -9,6 +9,7 @@
 //! octet of each lent output, a block and a code in capital hex, numbers in decimal, yes as 1 and no
 //! as 0.
 
+mod aes;
 mod bits;
 mod ciphers;
 mod ends;
@@ -16,6 +17,7 @@ pub mod form;
 mod forms;
 mod headers;
 mod links;
+mod milenage;
 mod numbers;
 mod pair;
 mod rounds;
@@ -30,7 +32,8 @@ struct Subject {
     /// The name of each, its fields, and the refusals that it can answer, as in
     /// `cut OCTETS START:u32 LENGTH:u32 ROOM:size -> 0 4`. A field without a type is octets, one
     /// of the type `key` the 16 octets of a state's key, one of the types `table` and `keys` the words
-    /// that the rounds of KASUMI are lent.
+    /// that the rounds of KASUMI are lent, one of the types `words` and `block` the words and the block of
+    /// AES.
     forms: &'static [&'static str],
     /// The answer to the fields of a line, or nothing for a line that is not of a form.
     answer: fn(&[&[u8]]) -> Option<String>,
@@ -38,10 +41,12 @@ struct Subject {
     cases: fn() -> Vec<String>,
 }
 
-const SUBJECTS: [Subject; 8] = [
+const SUBJECTS: [Subject; 10] = [
     ciphers::SUBJECT,
     rounds::SUBJECT,
     pair::SUBJECT,
+    aes::SUBJECT,
+    milenage::SUBJECT,
     bits::SUBJECT,
     numbers::SUBJECT,
     headers::SUBJECT,
@@ -106,18 +111,25 @@ mod tests {
         let takes_a_key = |form: &&&str| form.split(' ').nth(1) == Some("KEY");
         let forms: Vec<_> = SUBJECTS.iter().flat_map(|subject| subject.forms).collect();
         let forms: Vec<_> = forms.iter().filter(|form| takes_a_key(form)).collect();
-        assert_eq!(forms.len(), 13);
+        assert_eq!(forms.len(), 23);
         for form in forms {
             let name = form.split(' ').next().unwrap();
-            let whole = ["kasumi", "kgcore", "round_keys", "f8", "f9", "check_code"];
-            let lengths: &[usize] = if whole.contains(&name) { &[16] } else { &[8, 16] };
+            let either = ["prepare_key", "gsm", "ecsd", "gea4"];
+            let either = either.contains(&name) || name.starts_with("open_");
+            let lengths: &[usize] = if either { &[8, 16] } else { &[16] };
+            // Of MILENAGE 1 is for these too.
+            let strings = |word: &str| ["OP", "OPC", "RAND"].contains(&word);
+            let strings = form.split(' ').enumerate().filter(|(_, word)| strings(word));
+            let strings: Vec<usize> = strings.map(|(place, _)| place).collect();
             let mut tried = BTreeSet::new();
             for line in lines.iter().filter(|line| line.split(' ').next() == Some(name)) {
                 let Some(answer) = answer(line.as_bytes()) else { continue };
-                let key = octets_field(line.split(' ').nth(1).unwrap().as_bytes()).unwrap();
+                let field = |place| line.split(' ').nth(place).unwrap();
+                let octets = |place| octets_field(field(place).as_bytes()).unwrap().len();
                 let refused = answer.split(' ').next() == Some("1");
-                assert_eq!(refused, !lengths.contains(&key.len()), "{line}");
-                tried.insert(key.len());
+                let right = strings.iter().all(|&place| octets(place) == 16);
+                assert_eq!(refused, !(right && lengths.contains(&octets(1))), "{line}");
+                tried.insert(octets(1));
             }
             assert!(tried.is_superset(&(0..=33).collect()), "{form}");
         }

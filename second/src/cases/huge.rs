@@ -31,6 +31,10 @@ pub fn demo() -> Vec<u8> {
     around("pass one line between two that are too long")
 }
 
+pub fn challenge() -> Vec<u8> {
+    around(&format!("{KEY} OP {KEY} {KEY} 303132333435 4041"))
+}
+
 fn around(good_lines: &str) -> Vec<u8> {
     let mut random = Random::seeded(3);
     let mut input = vec![b'0'; MEGABYTE];
@@ -45,7 +49,7 @@ fn around(good_lines: &str) -> Vec<u8> {
 
 #[cfg(test)]
 mod tests {
-    use crate::{call, demo, lines, stream, walk};
+    use crate::{call, challenge, demo, lines, stream, walk};
 
     #[test]
     fn the_good_line_between_two_huge_ones_is_answered() {
@@ -54,6 +58,14 @@ mod tests {
         let octets = octets.expect("both huge lines are bad");
         assert_eq!(octets.len(), 18);
         assert_eq!(lines::answers(&super::call(), call::answer), format!("?\n0 {octets}AA\n?\n"));
+    }
+
+    #[test]
+    fn the_challenge_between_two_huge_lines_is_answered() {
+        let output = lines::answers(&super::challenge(), challenge::answer);
+        let lines: Vec<&str> = output.lines().collect();
+        assert_eq!((lines.len(), lines[0], lines[2]), (3, "?", "?"));
+        assert!(lines[1].starts_with("OPc ") && lines[1].contains(" MAC-S "));
     }
 
     #[test]

@@ -1,6 +1,7 @@
 //! Test inputs for the product's programs, the same on every machine. Those for `call` stand
 //! beside its lines.
 
+pub mod challenge;
 pub mod demo;
 pub mod huge;
 pub mod stream;

@@ -29,7 +29,7 @@ pub fn first_bits(octet: u8, count: u32) -> u8 {
 
 /// The octet at a place, or 0 past the end.
 pub fn octet_or_zero(source: &[u8], place: usize) -> u8 {
-    source.iter().nth(place).copied().unwrap_or(0)
+    source.get(place).copied().unwrap_or(0)
 }
 
 /// The octets of `one` xor those of `other`, whose missing octets read as 0.
