@@ -1,7 +1,7 @@
 #!/usr/bin/env bash
 # Fails when an example on a page is not what the second program, whose path is given, answers. An example is a line `$ COMMAND | ./run NAME` in a fenced
 # block, with the lines after it, up to the next such line or the block's end, as its output; or what a script of the demonstration prints, which begins
-# with the heading of `demo`.
+# with the heading of `demo`. COMMAND may have programs of its own, each as `./run NAME`.
 set -euo pipefail
 second=$1
 top=$(cd "$(dirname "$0")/.." && pwd -P)
@@ -18,7 +18,7 @@ compare() {
 for page in README.md docs/*.md; do
     while IFS= read -r command; do
         shown=$(LINE="\$ $command" awk '/^```/ { on = 0 } on && /^\$ / { exit } on { print } $0 == ENVIRON["LINE"] { on = 1 }' "$page")
-        made=$(bash -c "${command% | ./run *}" | "$second" "${command##* }")
+        made=$(bash -c "${command//.\/run /$second }")
         compare "$page" "$command" "$shown" "$made"
     done < <(sed -nE 's/^\$ ((echo|printf) .* \| \.\/run [a-z]+)$/\1/p' "$page")
 done
