@@ -1,6 +1,7 @@
 #!/usr/bin/env bash
 # Times the proved program `benchmark` beside the second program built for release, in one run: its version with tables, and the club's baseline, which
-# evaluates the equations of S9 at each look-up (document 02, item 9) and computes the S-box of AES at each use. It is no test. With the word `lengths` it times GEA4 alone, at many lengths.
+# evaluates the equations of S9 at each look-up (document 02, item 9) and computes the S-box of AES at each use. It is no test. With the word `lengths` it
+# times GEA4 alone, at many lengths.
 # Programs are compiled for x86-64; on another processor an emulated time means nothing, so there the very module that the kit compiles is compiled once
 # more by the kit's own compiler for this processor, to measure with.
 set -euo pipefail
