@@ -39,21 +39,36 @@ plan_of() {
 # A time in words.
 about() { if [ "$1" -ge 90 ]; then echo "about $((($1 + 30) / 60)) minutes"; else echo "about $((($1 + 9) / 10 * 10)) seconds"; fi; }
 
-# prove NAME: fails as rt does.
+# prove NAME: fails as rt does. What it is about to do is said once there is something to prove: when a crate was proved, or after two seconds of silence.
 prove() {
     local plan crates
     plan=$(plan_of "$1")
     crates=$(($(printf '%s\n' "$plan" | wc -l) - 1))
-    echo "proving $1 and what it uses, $crates crates; the first time that takes $(about "$(printf '%s\n' "$plan" | sed -n 's/^all //p')")" >&2
     rt check "$1" </dev/null | {
-        local line crate told weight rest took=0 weighed=0 proved=0
-        while IFS= read -r line; do
+        local line part='' patience='-t 2' crate told weight rest took=0 weighed=0 proved=0
+        begin() {
+            [ -n "$patience" ] || return 0
+            patience=''
+            echo "proving $1 and what it uses, $crates crates; the first time that takes $(about "$(printf '%s\n' "$plan" | sed -n 's/^all //p')")" >&2
+        }
+        while :; do
+            if IFS= read -r $patience line; then
+                line=$part$line part=''
+            elif [ $? -gt 128 ]; then
+                # the time is over; what has come of a line so far is kept
+                part=$line
+                begin "$1"
+                continue
+            else
+                break
+            fi
             case $line in
             'rt: '*' proved ('*)
                 proved=$((proved + 1))
                 crate=${line#rt: } crate=${crate%% *} told=${line##*(} told=${told% s)}
                 # a crate that is unchanged gives no seconds
                 case $told in *[!0-9]*) continue ;; esac
+                begin "$1"
                 read -r weight rest < <(printf '%s\n' "$plan" | sed -n "s/^$crate //p")
                 took=$((took + told)) weighed=$((weighed + weight))
                 if [ "$weighed" -gt 0 ]; then rest=$((rest * took / weighed)); fi
@@ -63,6 +78,11 @@ prove() {
                 crate=${line#rt: } crate=${crate%% *}
                 echo "$line; target/log/$crate.out says why" >&2
                 ;;
+            'rt: '*": what the program wrote is not what its file 'stdout' has")
+                crate=${line#rt: } crate=${crate%%:*}
+                echo "$line; target/log/$crate.stdout is what it wrote" >&2
+                ;;
+            'rt: ok, '*) if [ -n "$patience" ]; then echo "$1 is proved already" >&2; else echo "$line" >&2; fi ;;
             'rt: '*) echo "$line" >&2 ;;
             esac
         done

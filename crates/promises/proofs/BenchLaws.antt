@@ -8,7 +8,6 @@ use lib.ListN.{length, take}
 use lib.Seq.{take-at}
 use Rattle.refusals.specs.Call.{Answered, front}
 use Rattle.refusals.proofs.Calls.{one-outcome, refused-keeps}
-use Rattle.link.specs.declared.Link.{Link}
 use Rattle.link.specs.Link.{linkCanArise, frameAt}
 use Rattle.link.proofs.Frames.{length-frame-at}
 use Rattle.sender.specs.declared.Sender.{Sender}
@@ -19,7 +18,7 @@ use Rattle.receiver.specs.Receiver.{afterAccepting, receiverCanArise, Opening, 
 use Rattle.receiver.proofs.Laws.{open-repeat, open-new}
 use Rattle.numbering.specs.Numbering.{isAccepted}
 use Rattle.numbering.proofs.Means.{Means}
-use Rattle.promises.specs.Ends.{SealCall, OpenCall, SentFrame, frameSealed, IsFrame, benchSending, benchReceiving}
+use Rattle.promises.specs.Ends.{SealCall, OpenCall, SentFrame, frameSealed, benchSending, benchReceiving}
 use Rattle.promises.specs.Promise3.{RefusedAsRepeat}
 use Rattle.promises.proofs.Sending.{Sealed, SendingLaws}
 use Rattle.promises.proofs.Receiving.{Arrives, Accepted, ReceivingLaws, Stands}

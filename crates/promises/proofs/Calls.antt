@@ -1,5 +1,4 @@
 -- The order of every public call is one, and so promises 1 and 2 hold of all of them. Assumes nothing.
-use mathlib.Core.List.{List, [], _∷_}
 use lib.Dec.{T}
 use Rattle.refusals.specs.Call.{Call, Answers, Determined, Always, All}
 use Rattle.refusals.proofs.Orders.{isOrder}

@@ -8,22 +8,15 @@ use lib.Seq.{take-at, take-add}
 use Rattle.refusals.specs.Refusal.{Row, first, rowAt}
 use Rattle.refusals.specs.Call.{Answered, puts, front}
 use Rattle.refusals.proofs.Laws.{then-and-only-then}
-use Rattle.aes.specs.Field.{product, remainder, _•_}
-use Rattle.aes.specs.SBox.{squares, inverse}
-use Rattle.aes.proofs.SBox.{inverse-is, sbox-permutes}
 use Rattle.pair.specs.F8.{f8Output}
 use Rattle.pair.specs.F9.{padded, codeOf, f9Code}
 use Rattle.pair.proofs.Laws.{f8-done, f9-done}
 use Rattle.milenage.specs.Milenage.{fixed2, out1, out, opcOf, f1Output, f1StarOutput, f2Output, f3Output, f4Output, f5Output, f5StarOutput}
 use Rattle.milenage.specs.Calls.{opcOrder}
 use Rattle.milenage.proofs.Sizes.{two-sizes}
-use Rattle.milenage.proofs.Laws.{opc-done, f1-done, f1-star-done, f2-done, f3-done, f4-done, f5-done, f5-star-done}
-use Rattle.milenage.proofs.Laws.{length-opc, length-f1, length-f1-star, length-f2, length-f3, length-f4, length-f5, length-f5-star}
-use Rattle.promises.specs.Challenge.{AesBox, OneString, Puts, Taken, OnlyInputs, Feeds, Challenge}
-
-aes-box : AesBox
-unfolding product remainder _•_ squares inverse
-aes-box = record { inverse-is = inverse-is; zero-to-zero = refl; permutes = sbox-permutes }
+use Rattle.milenage.proofs.Laws.{opc-done, f1-done, f1-star-done, f2-done, f3-done, f4-done, f5-done, f5-star-done, length-opc, length-f1, length-f1-star, length-f2, length-f3, length-f4, length-f5, length-f5-star}
+use Rattle.promises.specs.Challenge.{OneString, Taken, OnlyInputs, Feeds, Challenge}
+use Rattle.promises.proofs.Boxes.{aes-box}
 
 -- ---- what is cut from which string
 

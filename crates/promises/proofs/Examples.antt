@@ -1,139 +1,89 @@
 -- For every link and every payload: a run that meets the hypotheses of promise 3 to their edges and crosses a rollover with a lost stretch of 479,
 -- with refused calls on both sides; and the frames one past the edges that are misread. Assumes nothing.
-use Prim.Native.Nat.{ℕ, zero, suc, _+_, _%_, _≤_, _<_, zero-le}
+use Prim.Native.Nat.{ℕ, _+_, _%_, _≤_, _<_, zero-le}
 use native.Mathlib.Omega.{arith}
-use native.Mathlib.Nat.{add-zero}
-use native.Mathlib.Numerals.{add-one}
-use mathlib.Core.Path.{_≡_, refl, sym, ap, ap₂, subst, _∙_}
+use mathlib.Core.Path.{_≡_, refl, sym, ap, subst, _∙_}
 use mathlib.Core.Bool.{true, false}
 use mathlib.Core.List.{List, [], _∷_, _++_}
-use borrow.Author.Tests.{le-leb, eqb-false}
+use borrow.Author.Tests.{eqb-false}
 use lib.Dec.{T, leb, ltb, lit<, lit≤}
-use lib.ListN.{length, take, replicate, length-replicate}
+use lib.ListN.{length}
 use Rattle.refusals.specs.Refusal.{first}
 use Rattle.refusals.specs.Call.{Call, Answered, front}
 use Rattle.refusals.proofs.Calls.{done, refused as refused-with}
 use Rattle.keystreams.specs.Key.{isKey, prepared}
-use Rattle.frames.specs.Frame.{frame, lookOrder, isWhole}
+use Rattle.frames.specs.Frame.{lookOrder, isWhole}
 use Rattle.numbering.specs.declared.Numbering.{Numbering}
 use Rattle.numbering.specs.Numbering.{width, numberingOf, start, end, InWindow, marksOf, mark, canArise, isAccepted, accepted}
 use Rattle.link.specs.declared.Link.{Link}
-use Rattle.link.specs.Link.{isService, isDirection, linkCanArise, linkOrder, linkOf, frameAt, headerAt, ciphered}
+use Rattle.link.specs.Link.{isService, isDirection, linkCanArise, linkOrder, linkOf, frameAt, ciphered}
 use Rattle.link.proofs.Links.{opened-link}
-use Rattle.link.proofs.Frames.{ciphered-twice, length-ciphered}
+use Rattle.link.proofs.Frames.{length-ciphered}
 use Rattle.sender.specs.declared.Sender.{Sender}
-use Rattle.sender.specs.Sender.{senderOf, newSender, afterFrame, openSenderCall, senderCanArise, sealCall}
-use Rattle.sender.proofs.Sealing.{seal-0, seal-3-empty}
+use Rattle.sender.specs.Sender.{senderOf, sealCall}
+use Rattle.sender.proofs.Sealing.{seal-3-empty}
 use Rattle.receiver.specs.declared.Receiver.{Receiver}
 use Rattle.receiver.specs.Receiver.{receiverOf, newReceiver, afterAccepting, openReceiverCall, receiverCanArise, openCall}
 use Rattle.receiver.proofs.Opening.{open-looked}
 use Rattle.receiver.proofs.Laws.{open-new, open-repeat, open-no-room}
-use Rattle.promises.specs.Ends.{SealCall, OpenCall, SentFrame, frameSealed, withSealed, Sends, no-more, seal, IsOneOf, here, there, Events, arrival, refused, arrivals, AllInWindow, benchSending, benchReceiving}
-use Rattle.promises.specs.Examples.{RunOf, Shown}
+use Rattle.promises.specs.Ends.{SealCall, OpenCall, SentFrame, withSealed, Sends, no-more, seal, IsOneOf, Events, arrival, refused, arrivals, AllInWindow, benchSending, benchReceiving}
+use Rattle.promises.specs.Examples.{RunOf, Misread, Shown, AlwaysShown}
 use Rattle.promises.proofs.Sending.{senders-half}
 use Rattle.promises.proofs.BenchLaws.{bench-sending}
 use Rattle.promises.proofs.ShortKeys.{receiver-same}
-
--- the turn is not on the air: the frame of a number is, for every number with the same nine bits, the frame of that number with another payload
-pub turn-not-on-air : (link : Link) (m n : ℕ) (payload : List ℕ) → m % 512 ≡ n % 512 → frameAt link m payload ≡ frameAt link n (ciphered link n (ciphered link m payload))
-unfolding frameAt headerAt
-turn-not-on-air link m n payload same =
-    ap₂ frame
-    {x = record { sapi = link .sapi; direction = link .direction; sent = m % 512 }}
-    (λ i. record { sapi = link .sapi; direction = link .direction; sent = same i })
-    (sym (ciphered-twice link n (ciphered link m payload)))
+use Rattle.promises.proofs.SealingAgain.{opening-allowed, sender-opens, sent-at, sent-from, one-from, good-sender, sends-from}
+use Rattle.promises.proofs.Misread.{turn-not-on-air, outside}
 
 module _ (key : List ℕ) (iov sapi direction : ℕ) (valid : isKey key ≡ true) (service : isService sapi ≡ true) (way : isDirection direction ≡ true)
     (payload : List ℕ) (some : 1 ≤ length payload) (most : length payload ≤ 1520) where
+  -- the link that both ends are opened on
   abbrev link : Link
   link = linkOf key iov sapi direction
 
-  -- the ends, opened
+  -- its sender with next number n, and its receiver with a numbering
   abbrev sender-at : ℕ → Sender
   sender-at n = senderOf link n
 
   abbrev receiver-at : Numbering → Receiver
   receiver-at numbering = receiverOf link numbering
 
-  nothing-refused : first (linkOrder key sapi direction) ≡ 0
-  unfolding first linkOrder
-  nothing-refused = simp (valid, service, way)
+  allowed : first (linkOrder key sapi direction) ≡ 0
+  allowed = opening-allowed key sapi direction valid service way
 
   link-good : linkCanArise link ≡ true
-  link-good = opened-link key iov sapi direction nothing-refused
-
-  pub sender-opens : Answered (openSenderCall key iov sapi direction) 0 [] (sender-at 0)
-  unfolding newSender
-  sender-opens = done (openSenderCall key iov sapi direction) nothing-refused
+  link-good = opened-link key iov sapi direction allowed
 
   receiver-opens : Answered (openReceiverCall key iov sapi direction) 0 [] (receiver-at start)
   unfolding newReceiver
-  receiver-opens = done (openReceiverCall key iov sapi direction) nothing-refused
+  receiver-opens = done (openReceiverCall key iov sapi direction) allowed
 
-  -- ---- the sender seals the payload again and again
+  -- ---- the sender
 
-  abbrev room-for : List ℕ
-  room-for = replicate (length payload + 6) 0
-
-  abbrev seal-call : ℕ → SealCall
-  seal-call n = record { payload = payload; before = room-for; refusal = 0; number = n; size = length payload + 6; after = front (frameAt link n payload) room-for }
-
-  abbrev sent-at : ℕ → SentFrame
-  sent-at n = record { number = n; payload = payload; octets = take (length payload + 6) (front (frameAt link n payload) room-for) }
-
-  abbrev pub sent-from : ℕ → ℕ → List SentFrame
-  sent-from n zero = []
-  sent-from n (suc k) = sent-at n ∷ sent-from (suc n) k
-
-  pub length-sent : (n k : ℕ) → length (sent-from n k) ≡ k
-  length-sent n zero = refl
-  length-sent n (suc k) = ap suc (length-sent (suc n) k)
-
-  good-sender : (n : ℕ) → n ≤ end → senderCanArise (sender-at n) ≡ true
-  unfolding senderCanArise
-  good-sender n most = simp (link-good, le-leb n end most)
-
-  seals-one : (n : ℕ) → n < end → benchSending .Seals (sender-at n) (seal-call n) (sender-at (suc n))
-  unfolding afterFrame
-  seals-one n below =
-      subst (λ (next : ℕ). benchSending .Seals (sender-at n) (seal-call n) (sender-at next)) (add-one n)
-      (done (sealCall (sender-at n) payload room-for)
-      (seal-0 (sender-at n) payload room-for (good-sender n (omega arith)) (omega (arith, some)) most (omega (arith, below)) (omega (arith, length-replicate {A = ℕ} (length payload + 6) 0))))
-
-  pub sends-from : (n k : ℕ) → n + k ≤ end → Sends benchSending (sender-at n) (sent-from n k) (sender-at (n + k))
-  unfolding withSealed frameSealed
-  sends-from n zero below = subst (λ (last : ℕ). Sends benchSending (sender-at n) [] (sender-at last)) (sym (add-zero n)) no-more
-  sends-from n (suc k) below =
-      subst (λ (last : ℕ). Sends benchSending (sender-at n) (sent-from n (suc k)) (sender-at last)) {x = suc n + k} (omega arith)
-      (seal (seal-call n) (seals-one n (omega arith)) (sends-from (suc n) k (omega arith)))
+  -- the frame of number n
+  abbrev sent-frame : ℕ → SentFrame
+  sent-frame n = sent-at link payload n
 
   -- a seal of no payload is refused, and the sender goes on
   abbrev empty-call : SealCall
-  empty-call = record { payload = []; before = room-for; refusal = 3; number = 0; size = 0; after = room-for }
+  empty-call = record { payload = []; before = []; refusal = 3; number = 0; size = 0; after = [] }
 
   seals-nothing : benchSending .Seals (sender-at 0) empty-call (sender-at 0)
   seals-nothing =
-      refused-with (sealCall (sender-at 0) [] room-for) 3 (seal-3-empty (sender-at 0) [] room-for (good-sender 0 zero-le) refl) (eqb-false 3 0 refl)
+      refused-with (sealCall (sender-at 0) [] []) 3 (seal-3-empty (sender-at 0) [] [] (good-sender link [] link-good 0 zero-le) refl) (eqb-false 3 0 refl)
 
   -- 962 frames, after a refused call
   abbrev frames : List SentFrame
-  frames = sent-from 0 962
+  frames = sent-from link payload 0 962
 
   all-sent : Sends benchSending (sender-at 0) frames (sender-at 962)
   unfolding withSealed end
-  all-sent = seal empty-call seals-nothing (sends-from 0 962 (lit≤ tt))
+  all-sent = seal empty-call seals-nothing (sends-from link payload link-good some most 0 962 (lit≤ tt))
 
-  one-from : (n k j : ℕ) → j < k → IsOneOf (sent-at (n + j)) (sent-from n k)
-  one-from n zero j below = absurd (omega arith)
-  one-from n (suc k) zero below = subst (λ (m : ℕ). IsOneOf (sent-at m) (sent-from n (suc k))) (sym (add-zero n)) here
-  one-from n (suc k) (suc j) below =
-      subst (λ (m : ℕ). IsOneOf (sent-at m) (sent-from n (suc k))) {x = suc n + j} (omega arith) (there (one-from (suc n) k j (omega arith)))
+  one-of : (n : ℕ) → n < 962 → IsOneOf (sent-frame n) frames
+  one-of n below = subst (λ (m : ℕ). IsOneOf (sent-frame m) frames) {x = 0 + n} (omega arith) (one-from link payload 0 962 n below)
 
-  one-of : (n : ℕ) → n < 962 → IsOneOf (sent-at n) frames
-  one-of n below = subst (λ (m : ℕ). IsOneOf (sent-at m) frames) {x = 0 + n} (omega arith) (one-from 0 962 n below)
-
-  octets-are : (n : ℕ) → n < 962 → frameAt link n payload ≡ sent-at n .octets
-  octets-are n below = sym (senders-half frameAt benchSending bench-sending all-sent .each-is (sent-at n) (one-of n below) .octets-are)
+  octets-are : (n : ℕ) → n < 962 → frameAt link n payload ≡ sent-frame n .octets
+  octets-are n below = sym (senders-half frameAt benchSending bench-sending all-sent .each-is (sent-frame n) (one-of n below) .octets-are)
 
   -- ---- the receiver
 
@@ -143,6 +93,7 @@ module _ (key : List ℕ) (iov sapi direction : ℕ) (valid : isKey key ≡ true
     in-window : AllInWindow width events
     arrived : arrivals events ≡ numbers
 
+  -- at this numbering a frame of number n, which was sent, is in the window
   record Ready (numbering : Numbering) (n : ℕ) : Type 0 where
     good : canArise width numbering ≡ true
     inside : InWindow width (numbering .next) n
@@ -159,14 +110,14 @@ module _ (key : List ℕ) (iov sapi direction : ℕ) (valid : isKey key ≡ true
   -- frame n presented, with an output, and its answer
   abbrev call-of : ℕ → List ℕ → ℕ → ℕ → List ℕ → OpenCall
   call-of n before refusal size after =
-      record { presented = sent-at n .octets; before = before; refusal = refusal; number = n; size = size; after = after }
+      record { presented = sent-frame n .octets; before = before; refusal = refusal; number = n; size = size; after = after }
 
   new : {numbering last : Numbering} {numbers : List ℕ} (n : ℕ) → Ready numbering n → isAccepted numbering n ≡ false → Going (accepted width numbering n) last numbers
       → Going numbering last (n ∷ numbers)
   unfolding afterAccepting
   new {numbering} n ready anew going = record {
     events =
-        arrival (sent-at n) (call-of n payload 0 (length payload) (front payload payload)) (one-of n (ready .sent)) refl (omega arith)
+        arrival (sent-frame n) (call-of n payload 0 (length payload) (front payload payload)) (one-of n (ready .sent)) refl (omega arith)
         (subst (λ (o : List ℕ). Answered (openCall width (receiver-at numbering) o payload) 0 (n ∷ length payload ∷ []) (record { receiver = receiver-at (accepted width numbering n); output = front payload payload }))
         (octets-are n (ready .sent))
         (open-new width (lit≤ tt) (receiver-at numbering) (good-receiver numbering (ready .good)) n (ready .inside) (below-end (ready .sent)) payload some most payload anew (omega arith)))
@@ -178,7 +129,7 @@ module _ (key : List ℕ) (iov sapi direction : ℕ) (valid : isKey key ≡ true
   again : {numbering last : Numbering} {numbers : List ℕ} (n : ℕ) → Ready numbering n → isAccepted numbering n ≡ true → Going numbering last numbers → Going numbering last (n ∷ numbers)
   again {numbering} n ready marked going = record {
     events =
-        arrival (sent-at n) (call-of n payload 11 0 payload) (one-of n (ready .sent)) refl (omega arith)
+        arrival (sent-frame n) (call-of n payload 11 0 payload) (one-of n (ready .sent)) refl (omega arith)
         (subst (λ (o : List ℕ). Answered (openCall width (receiver-at numbering) o payload) 11 (n ∷ 0 ∷ []) (record { receiver = receiver-at numbering; output = payload }))
         (octets-are n (ready .sent))
         (open-repeat width (lit≤ tt) (receiver-at numbering) (good-receiver numbering (ready .good)) n (ready .inside) (below-end (ready .sent)) payload some most payload marked))
@@ -247,7 +198,7 @@ module _ (key : List ℕ) (iov sapi direction : ℕ) (valid : isKey key ≡ true
   -- the open call that hands out frame m under number n
   abbrev garbled-call : ℕ → ℕ → OpenCall
   garbled-call m n = record {
-    presented = sent-at m .octets;
+    presented = sent-frame m .octets;
     before = payload;
     refusal = 0;
     number = n;
@@ -280,6 +231,7 @@ module _ (key : List ℕ) (iov sapi direction : ℕ) (valid : isKey key ≡ true
         subst (λ (entry : Call Receiver). Answered entry 0 [] (receiver-at start)) (receiver-same key other (valid ∙ sym other-valid) same iov sapi direction)
         receiver-opens
 
+    -- such events as a run
     abbrev run-of : {last : Numbering} {numbers : List ℕ} → Going start last numbers → RunOf width key other iov sapi direction numbers
     run-of {last} going = record {
       sender = sender-at 0;
@@ -287,13 +239,29 @@ module _ (key : List ℕ) (iov sapi direction : ℕ) (valid : isKey key ≡ true
       receiver = receiver-at start;
       receiver-last = receiver-at last;
       frames = frames;
-      same-key = same;
-      sender-opened = sender-opens;
-      receiver-opened = other-opens;
+      opened = record { same-key = same; sender-opened = sender-opens key iov sapi direction allowed; receiver-opened = other-opens };
       sent = all-sent;
       events = going .events;
       in-window = going .in-window;
       arrived = going .arrived;
+    }
+
+    -- after such events frame m is handed out under n, another number
+    misread : {last : Numbering} {numbers : List ℕ} (going : Going start last numbers) (m n : ℕ) → m < 962 → m % 512 ≡ n % 512 → Ready last n → isAccepted last n ≡ false
+        → (n ≡ m → ⊥) → Misread (run-of going) (last .next) m n
+    misread {last} going m n sent same ready anew differ = record {
+      frame = sent-frame m;
+      call = garbled-call m n;
+      later = receiver-at (accepted width last n);
+      next-is = refl;
+      number-is = refl;
+      one = one-of m sent;
+      presented = refl;
+      room = omega arith;
+      opens = taken-for m n sent same ready anew;
+      handed-out = refl;
+      under = refl;
+      not-its-own = differ;
     }
 
     pub shown : Shown key other iov sapi direction
@@ -301,41 +269,23 @@ module _ (key : List ℕ) (iov sapi direction : ℕ) (valid : isKey key ≡ true
     shown = record {
       over-a-rollover = run-of from-0;
       up-to-481 = run-of up-to-481;
-      above = record {
-        frame = sent-at 961;
-        call = garbled-call 961 449;
-        later = receiver-at (numberingOf 481 2147483649);
-        next-is = refl;
-        number-is = refl;
-        one = one-of 961 (lit< tt);
-        presented = refl;
-        room = omega arith;
-        opens = taken-for {numbering = numberingOf 481 1} 961 449 (lit< tt) refl (ready refl tt tt tt) refl;
-        handed-out = refl;
-        under = refl;
-        not-its-own = eqb-false 449 961 refl;
-      };
+      above = misread up-to-481 961 449 (lit< tt) refl (ready refl tt tt tt) refl (eqb-false 449 961 refl);
       up-to-34 = run-of up-to-34;
-      below = record {
-        frame = sent-at 1;
-        call = garbled-call 1 513;
-        later = receiver-at (numberingOf 514 1);
-        next-is = refl;
-        number-is = refl;
-        one = one-of 1 (lit< tt);
-        presented = refl;
-        room = omega arith;
-        opens = taken-for {numbering = numberingOf 34 1} 1 513 (lit< tt) refl (ready refl tt tt tt) refl;
-        handed-out = refl;
-        under = refl;
-        not-its-own = eqb-false 513 1 refl;
-      };
+      below = misread up-to-34 1 513 (lit< tt) refl (ready refl tt tt tt) refl (eqb-false 513 1 refl);
     }
 
--- and of one link in particular: the sender is handed a key of 8 octets, the receiver that key doubled, and the payload has one octet
+-- of every link, with a payload of one octet; and of every frame outside the window
+pub always-shown : AlwaysShown
+always-shown = record {
+  each-link = λ sender-key receiver-key iov sapi direction sender-valid receiver-valid same service way.
+      shown sender-key iov sapi direction sender-valid service way (7 ∷ []) (lit≤ tt) (lit≤ tt) receiver-key receiver-valid same;
+  outside = outside;
+}
+
+-- and of one link in particular: the sender is handed a key of 8 octets, the receiver that key doubled
 abbrev eight : List ℕ
 eight = 1 ∷ 2 ∷ 3 ∷ 4 ∷ 5 ∷ 6 ∷ 7 ∷ 8 ∷ []
 
 pub shown-once : Shown eight (eight ++ eight) 0x01234567 3 0
 unfolding isKey prepared isService isDirection
-shown-once = shown eight 0x01234567 3 0 refl refl refl (7 ∷ []) (lit≤ tt) (lit≤ tt) (eight ++ eight) refl refl
+shown-once = always-shown .each-link eight (eight ++ eight) 0x01234567 3 0 refl refl refl refl refl

@@ -7,6 +7,7 @@ use Rattle.promises.specs.Ends.{SentFrame, IsOneOf, here, there}
 use Rattle.promises.specs.Promise3.{AllAbove, Rising}
 
 module _ (P : SentFrame → Type 0) where
+  -- it holds of each of these frames
   abbrev pub Each : List SentFrame → Type 0
   Each [] = Unit {0}
   Each (frame ∷ rest) = P frame × Each rest

@@ -2,35 +2,33 @@
 -- Assumes nothing.
 use Prim.Native.Nat.{ℕ, suc, _^_, _≤_, _<_}
 use native.Mathlib.Omega.{arith}
-use mathlib.Core.Path.{_≡_, refl, sym, ap, ap₂, subst, _∙_}
-use mathlib.Core.Logic.{inl, inr, ⊎-elim}
+use mathlib.Core.Path.{_≡_, refl, sym, ap, subst, _∙_}
+use mathlib.Core.Logic.{⊎-elim}
 use mathlib.Core.Bool.{true, true≢false}
 use mathlib.Core.List.{List, [], _∷_}
 use lib.Dec.{lit≤}
 use lib.ListN.{length}
 use Rattle.refusals.proofs.Tests.{by-test}
 use Rattle.octets.specs.Xor.{xored}
-use Rattle.octets.proofs.Xored.{xored-shared}
 use Rattle.keystreams.specs.Key.{isKey, prepared}
 use Rattle.keystreams.specs.Gea4.{gea4Output}
 use Rattle.numbering.specs.Numbering.{end}
 use Rattle.frames.specs.Frame.{payloadOf}
 use Rattle.link.specs.declared.Link.{Link}
-use Rattle.link.specs.Input.{sx, inputOf}
 use Rattle.link.specs.Link.{isService, isDirection, linkCanArise, linkOf, ciphered, frameAt}
 use Rattle.link.proofs.Links.{service-most, link-says, opened-link}
-use Rattle.link.proofs.Inputs.{input-tells, two-meets-three}
+use Rattle.link.proofs.Inputs.{input-tells}
 use Rattle.link.proofs.Frames.{payload-of-frame-at}
 use Rattle.sender.specs.declared.Sender.{Sender}
 use Rattle.sender.specs.Sender.{newSender}
-use Rattle.sender.proofs.Laws.{opened-sender, seal-done}
+use Rattle.sender.proofs.Laws.{opened-sender}
 use Rattle.promises.specs.Ends.{SentFrame, IsOneOf, here, there, benchSending}
 use Rattle.promises.specs.Promise3.{Rising, SendersHalf}
-use Rattle.promises.specs.NoInputTwice.{DifferentInputs, SealedSince, not-opened, opened, OpenedUnder, BenchSenders, SealedFrame, place, SameCall, inputUsed, AllHaveSealed, NoInputTwice, WhereItEnds}
+use Rattle.promises.specs.NoInputTwice.{DifferentInputs, SealedSince, not-opened, opened, OpenedUnder, BenchSenders, SealedFrame, place, SameCall, inputUsed, AllHaveSealed, NoInputTwice}
 use Rattle.promises.proofs.Frames.{each-one, above-one}
 use Rattle.promises.proofs.Sending.{senders-half}
 use Rattle.promises.proofs.BenchLaws.{bench-sending}
-use Rattle.promises.proofs.Examples.{sender-opens, sent-from, sends-from, length-sent}
+use Rattle.promises.proofs.SealingAgain.{opening-allowed, sender-opens, sent-from, sends-from, length-sent}
 
 -- ---- of the formula
 
@@ -93,7 +91,8 @@ module _ (prepared-key : List ℕ) (iov direction : ℕ) where
               (λ second. told-by-place (known-of one .half .rising) (one .one) second (both .1)) (other .one),
         )
 
-    used : (one : SealedFrame (senders .frames))
+    -- what stands after a frame's header is its payload xor the GEA4 octets of its INPUT
+    pub used : (one : SealedFrame (senders .frames))
         → payloadOf (one .frame .octets) ≡ xored (one .frame .payload) (gea4Output prepared-key (inputUsed iov one) direction (length (one .frame .payload)))
     unfolding ciphered
     used one =
@@ -103,6 +102,7 @@ module _ (prepared-key : List ℕ) (iov direction : ℕ) where
 -- ---- senders that have sealed as much as one likes, each the payload of one octet
 
 module _ (key : List ℕ) (iov direction count : ℕ) (valid : isKey key ≡ true) (way : isDirection direction ≡ true) (most : count ≤ 2 ^ 27) where
+  -- what the sender of a service sealed: so many frames, where the service is assigned
   record OfService (sapi : ℕ) : Type 0 where
     frames : List SentFrame
     sealed : SealedSince benchSending (OpenedUnder (prepared key) iov direction sapi) frames
@@ -112,12 +112,15 @@ module _ (key : List ℕ) (iov direction count : ℕ) (valid : isKey key ≡ tru
   unfolding end
   of-service sapi =
       by-test (isService sapi) (OfService sapi)
-      (λ service. record {
-        frames = sent-from key iov sapi direction valid service way (7 ∷ []) (lit≤ tt) (lit≤ tt) 0 count;
+      (λ service.
+      let allowed = opening-allowed key sapi direction valid service way in
+      let link : Link = linkOf key iov sapi direction in
+      record {
+        frames = sent-from link (7 ∷ []) 0 count;
         sealed =
-            opened (record { key = key; yields = refl; sender-opened = sender-opens key iov sapi direction valid service way (7 ∷ []) (lit≤ tt) (lit≤ tt) })
-            (sends-from key iov sapi direction valid service way (7 ∷ []) (lit≤ tt) (lit≤ tt) 0 count (omega (arith, most)));
-        has = λ exists. length-sent key iov sapi direction valid service way (7 ∷ []) (lit≤ tt) (lit≤ tt) 0 count;
+            opened (record { key = key; yields = refl; sender-opened = sender-opens key iov sapi direction allowed })
+            (sends-from link (7 ∷ []) (opened-link key iov sapi direction allowed) (lit≤ tt) (lit≤ tt) 0 count (omega (arith, most)));
+        has = λ exists. length-sent link (7 ∷ []) 0 count;
       })
       (λ none. record { frames = []; sealed = not-opened; has = λ exists. absurd (true≢false (sym exists ∙ none)) })
 
@@ -133,38 +136,4 @@ no-input-twice = record {
   sealed = λ prepared-key iov direction senders one other two-calls same. two-calls (same-call prepared-key iov direction senders one other same);
   used = used;
   some = all-have-sealed;
-}
-
--- ---- where it ends
-
--- two frames that share an INPUT tell the xor of their payloads
-telling : (prepared-key : List ℕ) (iov other-iov direction : ℕ) (senders : BenchSenders prepared-key iov direction) (others : BenchSenders prepared-key other-iov direction)
-    (one : SealedFrame (senders .frames)) (other : SealedFrame (others .frames)) → inputUsed iov one ≡ inputUsed other-iov other → length (one .frame .payload) ≡ length (other .frame .payload)
-    → xored (payloadOf (one .frame .octets)) (payloadOf (other .frame .octets)) ≡ xored (one .frame .payload) (other .frame .payload)
-telling prepared-key iov other-iov direction senders others one other same long =
-    let stream : List ℕ = gea4Output prepared-key (inputUsed other-iov other) direction (length (other .frame .payload)) in
-    ap₂ xored
-    (used prepared-key iov direction senders one ∙ ap₂ (λ (input m : ℕ). xored (one .frame .payload) (gea4Output prepared-key input direction m)) same long)
-    (used prepared-key other-iov direction others other)
-    ∙ xored-shared (one .frame .payload) (other .frame .payload) stream (omega (arith, long))
-
-pub where-it-ends : WhereItEnds
-unfolding isService inputOf sx newSender linkOf
-where-it-ends = record {
-  at-the-end = record { one-assigned = refl; other-assigned = refl; same = refl };
-  under-every-offset = λ iov.
-      ⊎-elim
-      (λ same. inl (record { one-assigned = refl; other-assigned = refl; same = same }))
-      (λ same. inr (record { one-assigned = refl; other-assigned = refl; same = same }))
-      (two-meets-three iov);
-  two-offsets = record { one-assigned = refl; other-assigned = refl; same = refl };
-  opened-twice = λ one-key other-key iov sapi direction same one other.
-      opened-sender one-key iov sapi direction one
-      ∙ ap (λ (key : List ℕ). newSender (record { key = key; iov = iov; sapi = sapi; direction = direction })) same
-      ∙ sym (opened-sender other-key iov sapi direction other);
-  state-twice = λ sender one-payload other-payload one-before other-before one other.
-      let first = seal-done sender one-payload one-before one in
-      let second = seal-done sender other-payload other-before other in
-      (first .number-is ∙ sym (second .number-is), first .later-is ∙ sym (second .later-is));
-  tells = telling;
 }

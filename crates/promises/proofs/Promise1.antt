@@ -2,6 +2,7 @@
 use mathlib.Core.Path.{ap, _∙_}
 use Rattle.refusals.proofs.Calls.{refused-keeps}
 use Rattle.numbering.specs.Numbering.{width}
+use Rattle.link.specs.Link.{linkCanArise, openLinkCall}
 use Rattle.link.proofs.Links.{no-link}
 use Rattle.sender.specs.Sender.{newSender, openSenderCall, senderCanArise}
 use Rattle.receiver.specs.Receiver.{newReceiver, openReceiverCall, receiverCanArise}
@@ -12,6 +13,9 @@ pub promise-1 : Promise1
 unfolding senderCanArise newSender receiverCanArise newReceiver
 promise-1 = record {
   calls = all-answer;
+  no-link = λ key iov sapi direction answered some.
+      let none = refused-keeps (openLinkCall key iov sapi direction) answered some in
+      (none, ap linkCanArise none ∙ no-link);
   no-sender = λ key iov sapi direction answered some.
       let none = refused-keeps (openSenderCall key iov sapi direction) answered some in
       (none, ap senderCanArise none ∙ rw no-link);

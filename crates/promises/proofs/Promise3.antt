@@ -1,11 +1,10 @@
 -- Promise 3: the two halves meet in the frame of a number with its payload on a link. Assumes nothing.
 use Prim.Native.Nat.{ℕ, _≤_, _<_}
 use native.Mathlib.Omega.{arith}
-use mathlib.Core.Path.{_≡_, refl, sym, ap, subst, _∙_}
+use mathlib.Core.Path.{_≡_, sym, ap, subst, _∙_}
 use mathlib.Core.Bool.{true}
 use mathlib.Core.List.{List, []}
 use lib.Dec.{lit<, lit≤}
-use Rattle.refusals.specs.Call.{Answered}
 use Rattle.numbering.specs.Numbering.{width}
 use Rattle.numbering.specs.History.{aboveAll}
 use Rattle.numbering.proofs.Means.{Means, start-means}
@@ -16,10 +15,10 @@ use Rattle.sender.specs.declared.Sender.{Sender}
 use Rattle.sender.specs.Sender.{newSender}
 use Rattle.sender.proofs.Laws.{opened-sender}
 use Rattle.receiver.specs.declared.Receiver.{Receiver}
-use Rattle.receiver.specs.Receiver.{newReceiver, openReceiverCall}
+use Rattle.receiver.specs.Receiver.{newReceiver}
 use Rattle.receiver.proofs.Laws.{opened-receiver}
 use Rattle.promises.specs.Ends.{SentFrame, Events, AllInWindow, IsOneOf, IsFrame, NewlyOpenedEnds, NewlyOpenedReceiver, benchSending, benchReceiving, benchEnds}
-use Rattle.promises.specs.Promise3.{KeptBy, Promise3}
+use Rattle.promises.specs.Promise3.{KeptBy, Promise3, BenchPromise3}
 use Rattle.promises.proofs.Frames.{told-by-number}
 use Rattle.promises.proofs.Sending.{senders-half}
 use Rattle.promises.proofs.Receiving.{receivers-half}
@@ -44,15 +43,15 @@ module _ (w : ℕ) (wide : 0 < w) (narrow : w ≤ 512) where
   same-link : {sender : Sender} {receiver : Receiver} → NewlyOpenedEnds sender receiver → sender .link ≡ receiver .link
   unfolding newSender newReceiver linkOf
   same-link alike =
-      ap (λ (s : Sender). s .link) (opened-sender (alike .sender-key) (alike .iov) (alike .sapi) (alike .direction) (alike .sender-opened))
-      ∙ (λ i. record { key = alike .same-key i; iov = alike .iov; sapi = alike .sapi; direction = alike .direction })
-      ∙ sym (ap (λ (r : Receiver). r .link) (opened-receiver (alike .receiver-key) (alike .iov) (alike .sapi) (alike .direction) (alike .receiver-opened)))
+      ap (λ (s : Sender). s .link) (opened-sender (alike .sender-key) (alike .iov) (alike .sapi) (alike .direction) (alike .opened .sender-opened))
+      ∙ (λ i. record { key = alike .opened .same-key i; iov = alike .iov; sapi = alike .sapi; direction = alike .direction })
+      ∙ sym (ap (λ (r : Receiver). r .link) (opened-receiver (alike .receiver-key) (alike .iov) (alike .sapi) (alike .direction) (alike .opened .receiver-opened)))
 
   pub promise-3-at : Promise3 w (benchEnds w)
   promise-3-at = record {
     kept = λ alike sends events inside.
         newly-opened
-        (record { key = alike .receiver-key; iov = alike .iov; sapi = alike .sapi; direction = alike .direction; receiver-opened = alike .receiver-opened })
+        (record { key = alike .receiver-key; iov = alike .iov; sapi = alike .sapi; direction = alike .direction; receiver-opened = alike .opened .receiver-opened })
         (λ frame one. subst (λ (l : Link). IsFrame frameAt l frame) (same-link alike) (senders-half frameAt benchSending bench-sending sends .each-is frame one)) events inside;
     told-by-number = λ sends one other same. told-by-number (senders-half frameAt benchSending bench-sending sends .rising) one other same;
     senders-half = λ sends. senders-half frameAt benchSending bench-sending sends;
@@ -60,5 +59,5 @@ module _ (w : ℕ) (wide : 0 < w) (narrow : w ≤ 512) where
   }
 
 -- at the width of the link
-pub promise-3 : Promise3 width (benchEnds width)
+pub promise-3 : BenchPromise3
 promise-3 = promise-3-at width (lit< tt) (lit≤ tt)

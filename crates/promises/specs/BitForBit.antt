@@ -25,6 +25,7 @@ pub record FilledUp (kc ck : List ℕ) : Type 0 where
   pub own : (i : ℕ) → i < 8 * length kc → bitOf ck i ≡ bitOf kc i
   pub anew : (i : ℕ) → 8 * length kc + i < 128 → bitOf ck (8 * length kc + i) ≡ bitOf kc i
 
+-- the preparation of a key, KGCORE and the three keystreams, bit for bit: what each leaves where it is not refused
 pub record BitForBit : Type 0 where
   -- what the preparation hands out for a key is `prepared key`, under which the three keystreams below run KGCORE, and it is CK
   pub preparation : (key : List ℕ) {octets : List ℕ} → Answered (prepareKeyCall key) 0 [] octets → (octets ≡ prepared key) × FilledUp key octets

@@ -9,7 +9,7 @@ use lib.Dec.{eqb, leb}
 use lib.ListN.{length, take, drop}
 use Rattle.refusals.specs.Refusal.{first}
 use Rattle.refusals.specs.Call.{Answered}
-use Rattle.numbering.specs.Numbering.{end, isAccepted, Candidate}
+use Rattle.numbering.specs.Numbering.{end, isAccepted, Candidate, ByThePaper}
 use Rattle.octets.specs.Xor.{xored}
 use Rattle.keystreams.specs.Key.{prepared}
 use Rattle.keystreams.specs.Gea4.{gea4Output}
@@ -18,9 +18,9 @@ use Rattle.link.specs.declared.Link.{Link}
 use Rattle.link.specs.Input.{inputOf}
 use Rattle.link.specs.Link.{ciphered, frameAt}
 use Rattle.sender.specs.declared.Sender.{Sender}
-use Rattle.sender.specs.Sender.{openSenderCall, sealCall}
+use Rattle.sender.specs.Sender.{Sealing, SenderCannotArise, openSenderCall, sealCall, SenderArises}
 use Rattle.receiver.specs.declared.Receiver.{Receiver}
-use Rattle.receiver.specs.Receiver.{Opening, receiverCanArise, isOfLink, openReceiverCall, openCall}
+use Rattle.receiver.specs.Receiver.{Opening, ReceiverCannotArise, receiverCanArise, isOfLink, openReceiverCall, openCall, ReceiverArises}
 
 -- the link of an end that was opened: it holds the prepared key, and the rest as it was given. So what it ciphers under number n, it ciphers with the
 -- GEA4 octets of the key that it was opened with; these are GEA3's where the key has 8 octets
@@ -31,10 +31,11 @@ pub record HoldsLink (key : List ℕ) (iov sapi direction : ℕ) (link : Link) :
   pub direction-is : link .direction ≡ direction
   pub ciphers : (n : ℕ) (payload : List ℕ) → ciphered link n payload ≡ xored payload (gea4Output key (inputOf iov sapi n) direction (length payload))
 
--- a payload that was sealed: under the next number, the whole frame of that number stands at the front of the output, p + 6 octets; the octets past
--- it are kept; and the next number is one more
+-- a payload that was sealed: under the next number, which is below 2^27, so that 2^27 - 1 is the last; the whole frame of that number stands at the front
+-- of the output, p + 6 octets; the octets past it are kept; and the next number is one more
 pub record SealedByTheRule (sender : Sender) (payload before : List ℕ) (number size : ℕ) (later : Sender) (after : List ℕ) : Type 0 where
   pub number-is : number ≡ sender .next
+  pub before-end : number < end
   pub size-is : size ≡ length payload + 6
   pub frame-is : take size after ≡ frameAt (sender .link) number payload
   pub past : drop size after ≡ drop size before
@@ -62,11 +63,21 @@ pub record IsNumbered (w : ℕ) (receiver : Receiver) (octets : List ℕ) : Type
   pub passes-look : first (lookOrder octets) ≡ 0
   pub of-link : isOfLink (receiver .link) octets ≡ true
 
--- and n is its candidate, below 2^27
+-- a frame comes to be numbered, and n is its candidate, below 2^27
 pub record IsNumberedAs (w : ℕ) (receiver : Receiver) (octets : List ℕ) (n : ℕ) : Type 0 where
   pub numbered : IsNumbered w receiver octets
   pub is-candidate : Candidate w (receiver .numbering .next) (headerOf octets .sent) n
   pub before-end : n < end
+
+-- refusal 12 of either end: sealing and opening answer it exactly where one of the table's causes holds; and of the ends that hold the 16 octets of a
+-- key these are exactly the ones that never arise, by whatever calls: of receivers at a width up to 256, and the link's is 32
+pub record StateRefusal (w : ℕ) : Type 0 where
+  pub sealing : (sender : Sender) (payload before : List ℕ) {refusal number size : ℕ} {lent : Sealing}
+      → Answered (sealCall sender payload before) refusal (number ∷ size ∷ []) lent → (refusal ≡ 12) ↔ SenderCannotArise sender
+  pub opening : (receiver : Receiver) (octets before : List ℕ) {refusal number size : ℕ} {lent : Opening}
+      → Answered (openCall w receiver octets before) refusal (number ∷ size ∷ []) lent → (refusal ≡ 12) ↔ ReceiverCannotArise w receiver
+  pub senders : (sender : Sender) → length (sender .link .key) ≡ 16 → SenderCannotArise sender ↔ (SenderArises sender → ⊥)
+  pub receivers : w ≤ 256 → (receiver : Receiver) → length (receiver .link .key) ≡ 16 → ReceiverCannotArise w receiver ↔ (ReceiverArises w receiver → ⊥)
 
 -- which of 9, 10, 11 and 4 an open call answers, exactly when
 pub record OpenRefusals (w : ℕ) (receiver : Receiver) (octets before : List ℕ) (refusal number : ℕ) : Type 0 where
@@ -81,6 +92,7 @@ pub record OpenRefusals (w : ℕ) (receiver : Receiver) (octets before : List �
   -- the number that is given with 11 and 4 is the candidate
   pub given : (refusal ≡ 11) ⊎ (refusal ≡ 4) → Candidate w (receiver .numbering .next) (headerOf octets .sent) number
 
+-- sealing and opening by the paper's rules, for a window of width w
 pub record ByTheRule (w : ℕ) : Type 0 where
   -- the link whose frames are sealed and opened below is the one that the end was opened with
   pub sender-opened : (key : List ℕ) (iov sapi direction : ℕ) {sender : Sender} → Answered (openSenderCall key iov sapi direction) 0 [] sender
@@ -96,5 +108,9 @@ pub record ByTheRule (w : ℕ) : Type 0 where
   pub refused : (receiver : Receiver) (octets before : List ℕ) {refusal number size : ℕ} {lent : Opening}
       → AreOctets octets → Answered (openCall w receiver octets before) refusal (number ∷ size ∷ []) lent
       → OpenRefusals w receiver octets before refusal number
+  -- 12 is for the states that cannot arise
+  pub state : StateRefusal w
+  -- the candidate that is computed is the paper's: the one number with N on the air in the window
+  pub candidate : ByThePaper w
   -- a look's stretch is empty exactly when 5, 6 or 7 applies
   pub look : (octets : List ℕ) → (length (looked octets) ≡ 0) ↔ (first (lookOrder octets) ≡ 0 → ⊥)

@@ -1,7 +1,7 @@
 -- Every public call of every crate, each by the entry that its own contract cites, in one list. The width of the link's window is `width`.
 -- Assumes nothing.
 use mathlib.Core.List.{List, [], _∷_}
-use Rattle.refusals.specs.Call.{PublicCall, function, given, call1, call2, call3, call4, call5, call6}
+use Rattle.refusals.specs.Call.{PublicCall, function, call1, call2, call3, call4, call5, call6}
 use Rattle.octets.specs.Bits.{size, firstBits, octetOrZero}
 use Rattle.octets.specs.Cut.{cutCall}
 use Rattle.octets.specs.Xor.{xorCall}
@@ -25,6 +25,7 @@ use Rattle.lines.specs.Digits.{decimalCall, hexadecimalCall}
 use Rattle.lines.specs.Text.{octetsOfHexCall, hexOfOctetsCall, decimalOfNumberCall, putTextCall}
 use Rattle.lines.specs.Hearing.{silence, tooLong, kept}
 
+-- the public calls, each after its name: a function that cannot be refused, or a call with so many inputs
 abbrev pub publicCalls : List PublicCall
 publicCalls =
     -- octets::size

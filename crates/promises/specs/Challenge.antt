@@ -5,24 +5,16 @@ use mathlib.Core.Path.{_≡_}
 use mathlib.Core.List.{List, [], _∷_, _++_}
 use lib.ListN.{length, take, drop}
 use Rattle.refusals.specs.Call.{Call, Answered, front}
-use Rattle.octets.specs.Bits.{listed, size}
-use Rattle.sboxes.specs.Permutation.{Permutes}
-use Rattle.aes.specs.Field.{_•_}
-use Rattle.aes.specs.SBox.{inverse, sbox}
+use Rattle.octets.specs.Bits.{size}
 use Rattle.pair.specs.declared.F8Inputs.{F8Inputs}
 use Rattle.pair.specs.declared.F9Inputs.{F9Inputs}
 use Rattle.pair.specs.F8.{f8Output, f8Call}
 use Rattle.pair.specs.F9.{padded, codeOf, f9Call}
 use Rattle.milenage.specs.Milenage.{fixed2, out1, out, opcOf, f1Output, f1StarOutput, f2Output, f3Output, f4Output, f5Output, f5StarOutput}
 use Rattle.milenage.specs.Calls.{opcCall, f1Call, f1StarCall, f2Call, f3Call, f4Call, f5Call, f5StarCall}
+use Rattle.promises.specs.Boxes.{AesBox}
 
--- the S-box of AES: the inverse is one, of every octet but 0, which is taken to itself; and the 256 entries are the octets in another order
-pub record AesBox : Type 0 where
-  pub inverse-is : (x : ℕ) → 0 < x → x < 256 → (x • inverse x) ≡ 1
-  pub zero-to-zero : inverse 0 ≡ 0
-  pub permutes : Permutes 256 (listed sbox 256)
-
--- f1 and f1* are the halves of one string, and f5 and f2 its two ends of another
+-- f1 and f1* are the halves of one string, and f5 and f2 the two ends of another
 pub record OneString : Type 0 where
   pub halves : (key opc rand sqn amf : List ℕ) → f1Output key opc rand sqn amf ++ f1StarOutput key opc rand sqn amf ≡ out1 key opc rand sqn amf
   pub alike : (key opc rand sqn amf : List ℕ) → length (f1Output key opc rand sqn amf) ≡ length (f1StarOutput key opc rand sqn amf)
@@ -65,6 +57,7 @@ GoesByInputs octets call =
     (before before′ after after′ : List ℕ) → Answered (call before) 0 [] after → Answered (call before′) 0 [] after′
     → take octets after ≡ take octets after′
 
+-- so it is with each of the eight calls, with as many octets as its result has
 pub record OnlyInputs : Type 0 where
   pub opc : (key op : List ℕ) → GoesByInputs 16 (opcCall key op)
   pub f1 : (key opc rand sqn amf : List ℕ) → GoesByInputs 8 (f1Call key opc rand sqn amf)
@@ -75,18 +68,20 @@ pub record OnlyInputs : Type 0 where
   pub f5 : (key opc rand : List ℕ) → GoesByInputs 6 (f5Call key opc rand)
   pub f5-star : (key opc rand : List ℕ) → GoesByInputs 6 (f5StarCall key opc rand)
 
--- the 16 octets that f3 and f4 put are keys: f8 under CK and f9 under IK refuse no message that they would take under another key
+-- CK is what f3 puts, IK what f4 puts. Where f3 was not refused, f8 under those 16 octets refuses no message in range, lent whole and with room, and
+-- leaves f8's output under CK; f9 under IK likewise
 pub record Feeds : Type 0 where
   pub ck-to-f8 : (key opc rand before : List ℕ) {after : List ℕ} → Answered (f3Call key opc rand before) 0 [] after
       → (inputs : F8Inputs) (message : List ℕ) (bits : ℕ) (output : List ℕ) → inputs .bearer ≤ 31 → inputs .direction ≤ 1
       → 0 < bits → bits ≤ 20000 → size bits ≤ length message → size bits ≤ length output
-      → {refusal : ℕ} {numbers left : List ℕ} → Answered (f8Call inputs (take 16 after) message bits output) refusal numbers left
-      → (refusal ≡ 0) × (left ≡ front (f8Output inputs (f3Output key opc rand) message bits) output)
+      → {refusal : ℕ} {numbers output-after : List ℕ} → Answered (f8Call inputs (take 16 after) message bits output) refusal numbers output-after
+      → (refusal ≡ 0) × (output-after ≡ front (f8Output inputs (f3Output key opc rand) message bits) output)
   pub ik-to-f9 : (key opc rand before : List ℕ) {after : List ℕ} → Answered (f4Call key opc rand before) 0 [] after
       → (inputs : F9Inputs) (message : List ℕ) (bits : ℕ) → inputs .direction ≤ 1 → 0 < bits → bits ≤ 20000 → size bits ≤ length message
       → {refusal code : ℕ} → Answered (f9Call inputs (take 16 after) message bits) refusal (code ∷ []) tt
       → (refusal ≡ 0) × (code ≡ codeOf (f4Output key opc rand) (padded inputs message bits))
 
+-- item 7 as a whole
 pub record Challenge : Type 0 where
   pub aes-box : AesBox
   pub one-string : OneString

@@ -133,19 +133,23 @@ AllInWindow w (refused call not-done opens rest) = AllInWindow w rest
 
 -- ---- the bench frame, its sender and its receiver, whose window has the width w
 
--- a sender and a receiver newly opened with the same prepared key, offset, service number and direction. Each is handed a key of its own, of 8 octets or
--- of 16; it is the same key where both yield the same 16 octets
+-- a sender and a receiver newly opened with these keys, and with the same offset, service number and direction. Each is handed a key of its own, of 8
+-- octets or of 16; it is the same key where both yield the same 16 octets
+pub record OpenedWith (sender-key receiver-key : List ℕ) (iov sapi direction : ℕ) (sender : Sender) (receiver : Receiver) : Type 0 where
+  pub same-key : prepared sender-key ≡ prepared receiver-key
+  pub sender-opened : Answered (openSenderCall sender-key iov sapi direction) 0 [] sender
+  pub receiver-opened : Answered (openReceiverCall receiver-key iov sapi direction) 0 [] receiver
+
+-- a sender and a receiver newly opened with the same prepared key, offset, service number and direction, whichever these are
 pub record NewlyOpenedEnds (sender : Sender) (receiver : Receiver) : Type 0 where
   pub sender-key : List ℕ
   pub receiver-key : List ℕ
   pub iov : ℕ
   pub sapi : ℕ
   pub direction : ℕ
-  pub same-key : prepared sender-key ≡ prepared receiver-key
-  pub sender-opened : Answered (openSenderCall sender-key iov sapi direction) 0 [] sender
-  pub receiver-opened : Answered (openReceiverCall receiver-key iov sapi direction) 0 [] receiver
+  pub opened : OpenedWith sender-key receiver-key iov sapi direction sender receiver
 
--- a newly opened receiver
+-- a newly opened receiver, with whatever key, offset, service number and direction
 pub record NewlyOpenedReceiver (receiver : Receiver) : Type 0 where
   pub key : List ℕ
   pub iov : ℕ
@@ -153,7 +157,7 @@ pub record NewlyOpenedReceiver (receiver : Receiver) : Type 0 where
   pub direction : ℕ
   pub receiver-opened : Answered (openReceiverCall key iov sapi direction) 0 [] receiver
 
--- a sender takes no step but its calls
+-- the sender of the bench: it seals as `sealCall` says, and takes no step but its calls
 abbrev pub benchSending : Sending
 benchSending = record {
   State = Sender;
@@ -163,6 +167,7 @@ benchSending = record {
   Steps = λ sender later. ⊥;
 }
 
+-- the receiver of the bench: it opens as `openCall` says
 abbrev pub benchReceiving : ℕ → Receiving
 benchReceiving w = record {
   State = Receiver;
@@ -172,6 +177,7 @@ benchReceiving w = record {
       Answered (openCall w receiver (call .presented) (call .before)) (call .refusal) (call .number ∷ call .size ∷ []) (record { receiver = later; output = call .after });
 }
 
+-- the ends of the bench, which use the bench frame
 abbrev pub benchEnds : ℕ → Ends
 benchEnds w = record {
   frameOf = frameAt;

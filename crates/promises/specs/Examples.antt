@@ -2,16 +2,15 @@
 -- Assumes nothing.
 use Prim.Native.Nat.{ℕ, _≤_}
 use mathlib.Core.Path.{_≡_}
+use mathlib.Core.Bool.{true}
 use mathlib.Core.List.{List, [], _∷_}
 use lib.ListN.{length}
-use Rattle.refusals.specs.Call.{Answered}
-use Rattle.keystreams.specs.Key.{prepared}
-use Rattle.numbering.specs.Numbering.{width}
+use Rattle.keystreams.specs.Key.{isKey, prepared}
+use Rattle.numbering.specs.Numbering.{width, InWindow}
+use Rattle.link.specs.Link.{isService, isDirection, frameAt}
 use Rattle.sender.specs.declared.Sender.{Sender}
-use Rattle.sender.specs.Sender.{openSenderCall}
 use Rattle.receiver.specs.declared.Receiver.{Receiver}
-use Rattle.receiver.specs.Receiver.{openReceiverCall}
-use Rattle.promises.specs.Ends.{OpenCall, SentFrame, Sends, IsOneOf, Events, arrivals, AllInWindow, benchSending, benchReceiving}
+use Rattle.promises.specs.Ends.{OpenCall, SentFrame, Sends, IsOneOf, Events, arrivals, AllInWindow, OpenedWith, benchSending, benchReceiving}
 
 -- a run of two ends of the bench, newly opened on one link with these two keys, that meets the hypotheses of promise 3, in which these numbers arrive, in
 -- this order
@@ -21,9 +20,7 @@ pub record RunOf (w : ℕ) (sender-key receiver-key : List ℕ) (iov sapi direct
   pub receiver : Receiver
   pub receiver-last : Receiver
   pub frames : List SentFrame
-  pub same-key : prepared sender-key ≡ prepared receiver-key
-  pub sender-opened : Answered (openSenderCall sender-key iov sapi direction) 0 [] sender
-  pub receiver-opened : Answered (openReceiverCall receiver-key iov sapi direction) 0 [] receiver
+  pub opened : OpenedWith sender-key receiver-key iov sapi direction sender receiver
   pub sent : Sends benchSending sender frames sender-last
   pub events : Events (benchReceiving w) frames receiver receiver-last
   pub in-window : AllInWindow w events
@@ -55,3 +52,22 @@ pub record Shown (sender-key receiver-key : List ℕ) (iov sapi direction : ℕ)
   -- one past the lower edge: after 0 and 33 the next number is 34, and 1, which is 33 below it, is read as 513, one turn ahead
   pub up-to-34 : RunOf width sender-key receiver-key iov sapi direction (0 ∷ 33 ∷ [])
   pub below : Misread up-to-34 34 1 513
+
+-- a frame outside the window is never handed out under its own number: whatever the receiver's link and its next number, whichever number the frame has,
+-- and whatever its payload, it is refused or misread
+abbrev pub OutsideMisread : ℕ → Type 0
+OutsideMisread w =
+    (receiver later : Receiver) (n : ℕ) (payload : List ℕ) (call : OpenCall) → (InWindow w (receiver .numbering .next) n → ⊥)
+    → call .presented ≡ frameAt (receiver .link) n payload
+    → benchReceiving w .Opens receiver call later
+    → call .refusal ≡ 0
+    → call .number ≡ n → ⊥
+
+-- what is shown of promise 3: it is not empty, whatever the link, and its bound is the true one
+pub record AlwaysShown : Type 0 where
+  -- of every link, and any two keys that yield the same 16 octets
+  pub each-link : (sender-key receiver-key : List ℕ) (iov sapi direction : ℕ) → isKey sender-key ≡ true → isKey receiver-key ≡ true
+      → prepared sender-key ≡ prepared receiver-key → isService sapi ≡ true → isDirection direction ≡ true
+      → Shown sender-key receiver-key iov sapi direction
+  -- and of every width, every next number, and every frame outside the window
+  pub outside : (w : ℕ) → w ≤ 512 → OutsideMisread w

@@ -1,4 +1,5 @@
 pub mod BitForBit
+pub mod Boxes
 pub mod ByTheRule
 pub mod Calls
 pub mod Challenge
@@ -10,3 +11,4 @@ pub mod Promise2
 pub mod Promise3
 pub mod ShortKeys
 pub mod ThirdGeneration
+pub mod WhereItEnds

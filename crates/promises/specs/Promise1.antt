@@ -5,16 +5,21 @@ use mathlib.Core.Bool.{false}
 use mathlib.Core.List.{List}
 use Rattle.refusals.specs.Call.{Answered, Answers, Always, All}
 use Rattle.numbering.specs.Numbering.{width}
-use Rattle.link.specs.Link.{noLink}
+use Rattle.link.specs.declared.Link.{Link}
+use Rattle.link.specs.Link.{linkCanArise, noLink, openLinkCall}
 use Rattle.sender.specs.declared.Sender.{Sender}
 use Rattle.sender.specs.Sender.{newSender, openSenderCall, senderCanArise}
 use Rattle.receiver.specs.declared.Receiver.{Receiver}
 use Rattle.receiver.specs.Receiver.{newReceiver, openReceiverCall, receiverCanArise}
 use Rattle.promises.specs.Calls.{publicCalls}
 
+-- promise 1: every public call, whatever it is given, answers; and what is handed back in place of a link or an end is none
 pub record Promise1 : Type 0 where
   pub calls : All (Always (λ Lent call. Answers call)) publicCalls
-  -- a call that makes an end hands back, when refused, all zeros with direction 2, which is no end that sealing or opening takes: 12 refuses it
+  -- a call that makes a link hands back, when refused, all zeros with direction 2, which is no link that ciphering takes: 12 refuses it
+  pub no-link : (key : List ℕ) (iov sapi direction : ℕ) {refusal : ℕ} {numbers : List ℕ} {link : Link} → Answered (openLinkCall key iov sapi direction) refusal numbers link
+      → (refusal ≡ 0 → ⊥) → (link ≡ noLink) × (linkCanArise link ≡ false)
+  -- and so does a call that makes an end: a new one of no link, which sealing or opening refuses with 12
   pub no-sender : (key : List ℕ) (iov sapi direction : ℕ) {refusal : ℕ} {numbers : List ℕ} {sender : Sender} → Answered (openSenderCall key iov sapi direction) refusal numbers sender
       → (refusal ≡ 0 → ⊥) → (sender ≡ newSender noLink) × (senderCanArise sender ≡ false)
   pub no-receiver : (key : List ℕ) (iov sapi direction : ℕ) {refusal : ℕ} {numbers : List ℕ} {receiver : Receiver} → Answered (openReceiverCall key iov sapi direction) refusal numbers receiver

@@ -6,6 +6,7 @@ use Rattle.promises.specs.Calls.{publicCalls}
 use Rattle.promises.specs.BitForBit.{BitForBit}
 use Rattle.promises.specs.ByTheRule.{ByTheRule}
 
+-- promise 2: the keystreams, the link at its width, and every public call
 pub record Promise2 : Type 0 where
   pub keystreams : BitForBit
   pub link : ByTheRule width

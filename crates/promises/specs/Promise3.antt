@@ -5,9 +5,10 @@ use mathlib.Core.Bool.{true, false}
 use mathlib.Core.List.{List, [], _∷_}
 use lib.ListN.{length}
 use Rattle.refusals.specs.Call.{front}
+use Rattle.numbering.specs.Numbering.{width}
 use Rattle.numbering.specs.History.{isAmong, aboveAll}
 use Rattle.link.specs.declared.Link.{Link}
-use Rattle.promises.specs.Ends.{OpenCall, Receiving, Ends, SentFrame, Sends, IsOneOf, IsFrame, Events, no-more, arrival, refused, arrivals, AllInWindow}
+use Rattle.promises.specs.Ends.{OpenCall, Receiving, Ends, SentFrame, Sends, IsOneOf, IsFrame, Events, no-more, arrival, refused, arrivals, AllInWindow, benchEnds}
 
 -- the receiver hands out a frame: no refusal, its true number, and the sender's payload, which then stands at the front of the output; the octets
 -- past it are kept
@@ -59,6 +60,8 @@ pub record SendersHalf (frameOf : Link → ℕ → List ℕ → List ℕ) (link 
   pub each-is : (frame : SentFrame) → IsOneOf frame frames → IsFrame frameOf link frame
   pub rising : Rising frames
 
+-- promise 3, of a window of width w and two ends: whatever the sender seals and whatever of it arrives, within the window, every event gets the answer
+-- that was promised
 pub record Promise3 (w : ℕ) (ends : Ends) : Type 0 where
   -- two ends opened alike; any calls of the sender; any events within the window
   pub kept : {sender sender-last : ends .sending .State} {receiver receiver-last : ends .receiving .State} {frames : List SentFrame}
@@ -80,3 +83,7 @@ pub record Promise3 (w : ℕ) (ends : Ends) : Type 0 where
       → (events : Events (ends .receiving) frames receiver receiver-last)
       → AllInWindow w events
       → KeptBy events
+
+-- promise 3 of the bench: the window is 32 behind and 479 ahead
+abbrev pub BenchPromise3 : Type 0
+BenchPromise3 = Promise3 width (benchEnds width)

@@ -22,6 +22,7 @@ pub record BeginAlike (bits : ℕ) (message message′ : List ℕ) : Type 0 wher
   pub enough′ : size bits ≤ length message′
   pub same : (i : ℕ) → i < bits → bitOf message i ≡ bitOf message′ i
 
+-- f8, the confidentiality of the pair: what it leaves, what it takes, that it undoes itself, and what it reads of a message
 pub record Confidentiality : Type 0 where
   -- bit i of the output is bit i of the message xor bit i of KGCORE's output, in as many octets as hold the bits
   pub bit-for-bit : (inputs : F8Inputs) (key message : List ℕ) (bits octets : ℕ) (before : List ℕ) {output : List ℕ} → Answered (f8Call inputs key message bits before) 0 [] output
@@ -46,12 +47,13 @@ pub record Fits (inputs : F9Inputs) : Type 0 where
   pub fresh : inputs .fresh < 2 ^ 32
   pub direction : inputs .direction ≤ 1
 
--- what a padded string tells
+-- what a padded string tells: its inputs, its length, and each bit of its message
 pub record Told (inputs inputs′ : F9Inputs) (message message′ : List ℕ) (bits bits′ : ℕ) : Type 0 where
   pub inputs-are : inputs ≡ inputs′
   pub length-is : bits ≡ bits′
   pub bits-are : (i : ℕ) → i < bits → bitOf message i ≡ bitOf message′ i
 
+-- f9, the integrity of the pair: what its padded string is made of and tells, what it takes, and when a code is right
 pub record Integrity : Type 0 where
   -- the padded string is a whole number of blocks, with 0 to 63 zeros at its end
   pub blocks : (inputs : F9Inputs) (message : List ℕ) (bits : ℕ) → (length (padded inputs message bits) % 64 ≡ 0) × (zerosAfter bits < 64)
@@ -75,6 +77,7 @@ pub record Integrity : Type 0 where
   pub check : (inputs : F9Inputs) (key message : List ℕ) (bits code : ℕ) {refusal : ℕ} {right : Bool} → Answered (checkCall inputs key message bits code) refusal [] right
       → (right ≡ true) ↔ Answered (f9Call inputs key message bits) 0 (code ∷ []) tt
 
+-- item 2 as a whole
 pub record ThirdGeneration : Type 0 where
   pub f8 : Confidentiality
   pub f9 : Integrity
