@@ -1,19 +1,17 @@
 -- The table of the rounds: what stands in it, and that four look-ups are a column after SubBytes, ShiftRows and MixColumns.
 -- Assumes nothing.
-use Prim.Native.Nat.{ℕ, _+_, _*_, _/_, _%_, _^_, _<_}
-use native.Mathlib.Omega.{arith}
+use Prim.Native.Nat.{ℕ, _+_, _*_, _/_, _%_, _<_}
 use native.Mathlib.Nat.{mod-lt}
 use mathlib.Core.Path.{_≡_, refl, sym, ap, ap₂, _∙_}
 use mathlib.Core.Bool.{Bool}
-use mathlib.Core.List.{List, [], _∷_}
+use mathlib.Core.List.{List}
 use lib.Bits.{bitXor, xor-lt}
 use lib.Dec.{T, eqb, eqb→eq, lit<}
 use lib.ListN.{length, getD}
 use lib.Seq.{ext-getD}
 use Rattle.refusals.proofs.Tests.{all, at-place}
-use Rattle.octets.specs.Bits.{listed}
 use Rattle.octets.proofs.Listed.{length-listed, getD-listed}
-use Rattle.aes.specs.Field.{product, remainder, _•_}
+use Rattle.aes.specs.Field.{_•_}
 use Rattle.aes.specs.SBox.{sbox}
 use Rattle.aes.specs.Aes.{word, octetOf, coefficient, mix, mixColumns}
 use Rattle.aes.specs.Table.{entryOf, table}

@@ -3,21 +3,21 @@
 use Prim.Native.Nat.{ℕ, _<_}
 use native.Mathlib.Omega.{arith}
 use mathlib.Core.Path.{_≡_, refl, sym, subst, _∙_}
-use mathlib.Core.Bool.{Bool, true, false, _&&_, _||_}
+use mathlib.Core.Bool.{Bool, false, _&&_, _||_}
 use mathlib.Core.List.{List, [], _∷_}
 use borrow.Author.Tests.{ne-eqb}
 use lib.Dec.{T, eqb, ltb, eqb→eq, ltb→lt}
-use lib.ListN.{length, getD}
+use lib.ListN.{getD}
 use lib.Seq.{ext-getD}
 use Rattle.refusals.proofs.Tests.{and-left, and-right, at-place}
 use Rattle.octets.specs.Bits.{listed}
 use Rattle.octets.proofs.Listed.{length-listed, getD-listed}
-use Rattle.sboxes.specs.Permutation.{Permutes}
-use Rattle.sboxes.proofs.Entries.{permutes}
+use Rattle.octets.specs.Permutation.{Permutes}
+use Rattle.octets.proofs.Permutation.{permutes}
 use Rattle.aes.specs.Field.{product, remainder, _•_}
 use Rattle.aes.specs.SBox.{squares, inverse, affine, sbox}
 
--- the entries, as figure 7 of FIPS 197 prints them
+-- the entries for input 0, 1, 2, ..; that each is what the definition gives is proved below, `sbox-entry`
 unfoldable pub entries : List ℕ
 entries =
     99 ∷ 124 ∷ 119 ∷ 123 ∷ 242 ∷ 107 ∷ 111 ∷ 197 ∷ 48 ∷ 1 ∷ 103 ∷ 43 ∷ 254 ∷ 215 ∷ 171 ∷ 118 ∷

@@ -8,11 +8,12 @@ use mathlib.Core.List.{List, [], _∷_}
 use lib.Bits.{bitXor, xor-lt}
 use lib.Dec.{lit<}
 use lib.ListN.{getD}
+use Rattle.octets.specs.Octets.{AreOctets}
 use Rattle.octets.proofs.Listed.{listed-ext}
 use Rattle.aes.specs.Field.{_•_}
 use Rattle.aes.specs.SBox.{sbox}
 use Rattle.aes.specs.Aes.{State, stateOf, word, octetOf, subBytes, shiftRows, coefficient, mix, mixColumns, addRoundKey, round, lastRound, rounds, blockOf, cipher}
-use Rattle.aes.specs.Columns.{AreOctets, columnOf, columnsOf, held}
+use Rattle.aes.specs.Columns.{columnOf, columnsOf, held}
 use Rattle.aes.specs.declared.rounds.Columns.{Columns}
 use Rattle.aes.proofs.SBox.{sbox-lt, once, twice-lt, thrice-lt}
 use Rattle.aes.proofs.FourOctets.{each-of-4, octet-0, octet-1, octet-2, octet-3, xor-with}

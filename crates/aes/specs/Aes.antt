@@ -9,6 +9,7 @@ use lib.ListN.{length, getD, replicate}
 use Rattle.refusals.specs.Refusal.{Row}
 use Rattle.refusals.specs.Call.{Call, puts, makes}
 use Rattle.octets.specs.Bits.{listed, join}
+use Rattle.octets.specs.Octets.{isWholeKey}
 use Rattle.aes.specs.Field.{_•_}
 use Rattle.aes.specs.SBox.{sbox}
 
@@ -22,8 +23,9 @@ word a b c d = join 8 (join 8 (join 8 a b) c) d
 abbrev pub octetOf : ℕ → ℕ → ℕ
 octetOf w r = w / 2 ^ (24 - 8 * r) % 256
 
--- ---- the state: the octet that stands in row r and column c (3.4)
+-- ---- the state (3.4)
 
+-- the octet that stands in row r and column c
 abbrev pub State : Type 0
 State = ℕ → ℕ → ℕ
 
@@ -45,8 +47,8 @@ subBytes s r c = sbox (s r c)
 unfoldable pub shiftRows : State → State
 shiftRows s r c = s r ((c + r) % 4)
 
--- the coefficient of x^i in the product of two polynomials of four terms modulo x^4 + 1 (4.3): x^k of the second meets x^(i - k) of the first,
--- and exponents go round after 3
+-- the coefficient of x^i in the product of two polynomials of four terms modulo x^4 + 1 (4.3): that of x^k in the second is multiplied by that of
+-- x^(i - k) in the first, and exponents go round after 3
 unfoldable pub coefficient : (ℕ → ℕ) → (ℕ → ℕ) → ℕ → ℕ
 coefficient a b i = bitXor (bitXor (bitXor (a i • b 0) (a ((i + 3) % 4) • b 1)) (a ((i + 2) % 4) • b 2)) (a ((i + 1) % 4) • b 3)
 
@@ -58,7 +60,7 @@ mix i = getD (2 ∷ 1 ∷ 1 ∷ 3 ∷ []) i 0
 unfoldable pub mixColumns : State → State
 mixColumns s r c = coefficient mix (λ k. s k c) r
 
--- column c meets word 4 n + c of the expanded key
+-- column c is xored with word 4 n + c of the expanded key
 unfoldable pub addRoundKey : List ℕ → ℕ → State → State
 addRoundKey words n s r c = bitXor (s r c) (octetOf (getD words (4 * n + c) 0) r)
 
@@ -122,18 +124,18 @@ aes key block = cipher (expanded key 44) block
 
 -- ---- the calls
 
--- a key of AES-128 has 16 octets
-unfoldable pub keyOrder : List ℕ → List Row
-keyOrder key = record { number = 1; holds = not (eqb (length key) 16) } ∷ []
+-- the refusals of expanding a key: 1 where it is not 16 octets
+unfoldable pub expandKeyOrder : List ℕ → List Row
+expandKeyOrder key = record { number = 1; holds = not (isWholeKey key) } ∷ []
 
 -- aes::expand_key makes the 44 words of the expanded key, or hands back 44 zeros
 abbrev pub expandKeyCall : List ℕ → Call (List ℕ)
-expandKeyCall key = makes (keyOrder key) (replicate 44 0) (expanded key 44)
+expandKeyCall key = makes (expandKeyOrder key) (replicate 44 0) (expanded key 44)
 
 -- the refusals of a block's encryption, in their order: 1 for the key, 5 where the block is not 16 octets, 4 for want of room
 unfoldable pub aesOrder : List ℕ → List ℕ → List ℕ → List Row
 aesOrder key block output =
-    record { number = 1; holds = not (eqb (length key) 16) } ∷
+    record { number = 1; holds = not (isWholeKey key) } ∷
     record { number = 5; holds = not (eqb (length block) 16) } ∷
     record { number = 4; holds = ltb (length output) 16 } ∷ []
 

@@ -1,14 +1,10 @@
 -- How the rounds hold the state: four columns, each one word (FIPS 197, 3.5). Assumes nothing.
-use Prim.Native.Nat.{ℕ, _<_}
-use mathlib.Core.List.{List, [], _∷_}
+use Prim.Native.Nat.{ℕ}
+use mathlib.Core.List.{[], _∷_}
 use lib.ListN.{getD}
 use Rattle.aes.specs.Aes.{State, word, octetOf}
 use Rattle.aes.specs.SBox.{sbox}
 use Rattle.aes.specs.declared.rounds.Columns.{Columns}
-
--- every element of a list is an octet
-abbrev pub AreOctets : List ℕ → Type 0
-AreOctets octets = (k : ℕ) → getD octets k 0 < 256
 
 -- column c of a state, as a word
 unfoldable pub columnOf : State → ℕ → ℕ

@@ -4,7 +4,7 @@ use Prim.Native.Nat.{ℕ, zero, suc, _+_, _*_, _^_}
 use mathlib.Core.Bool.{Bool, cond}
 use lib.Bits.{bitXor}
 use lib.Dec.{eqb}
-use Rattle.sboxes.specs.Gates.{lowBit}
+use Rattle.octets.specs.LowBits.{lowBit}
 
 -- whether a polynomial has the term x^i
 abbrev pub hasTerm : ℕ → ℕ → Bool

@@ -10,5 +10,6 @@ use Rattle.aes.specs.Aes.{word}
 unfoldable pub entryOf : ℕ → ℕ
 entryOf x = word (2 • sbox x) (sbox x) (sbox x) (3 • sbox x)
 
+-- the table: the 256 of them
 unfoldable pub table : List ℕ
 table = listed entryOf 256

@@ -2,9 +2,10 @@
 ghost use mathlib.Core.Path.{_≡_};
 ghost use Prim.Native.Nat.{_+_, _*_, _/_, _%_, _<_};
 ghost use lib.ListN.{length};
+ghost use Rattle.octets.specs.Octets.{AreOctets};
 ghost use Rattle.aes.specs.Table.{table as Table·table};
 ghost use Rattle.aes.specs.Aes.{stateOf, blockOf, mixColumns, addRoundKey, round as Aes·round, lastRound, cipher};
-ghost use Rattle.aes.specs.Columns.{AreOctets, columnOf, columnsOf, held, gathered};
+ghost use Rattle.aes.specs.Columns.{columnOf, columnsOf, held, gathered};
 use super::table;
 use super::words;
 
@@ -87,7 +88,7 @@ fn last_round(table: &[u32; 256], words: &[u32; 44], x: Columns) -> Columns
     }
 }
 
-// The block's columns, met by the first round key.
+// The block's columns, xored with the first round key.
 fn first_key_added(words: &[u32; 44], block: &[u8]) -> Columns
     requires { ⌜ length (now block) ≡ 16 ⌝ }
     ensures { λ r. ⌜ (r ≡ columnsOf (addRoundKey (now (words .entry)) 0 (stateOf (now (block .entry))))) × AreOctets (now (block .entry)) ⌝ }

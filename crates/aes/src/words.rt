@@ -2,8 +2,8 @@
 ghost use mathlib.Core.Path.{_≡_};
 ghost use Prim.Native.Nat.{_^_, _<_};
 ghost use lib.ListN.{length};
+ghost use Rattle.octets.specs.Octets.{AreOctets};
 ghost use Rattle.aes.specs.Aes.{word as Aes·word, keyWord};
-ghost use Rattle.aes.specs.Columns.{AreOctets};
 
 // An octet as a number of 32 bits.
 pub(crate) fn wide(octet: u8) -> u32

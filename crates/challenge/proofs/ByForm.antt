@@ -11,12 +11,12 @@ use lib.ListN.{length, getD, length-append}
 use Rattle.refusals.specs.Refusal.{first}
 use Rattle.refusals.proofs.Tests.{by-test}
 use Rattle.lines.specs.Digits.{within, digitValue, allDigits}
-use Rattle.lines.specs.Text.{hexOctets}
+use Rattle.lines.specs.Text.{ended, hexOctets}
 use Rattle.lines.proofs.Text.{length-hexOctets, hex-of-digits}
 use Rattle.milenage.specs.Milenage.{opcOf}
 use Rattle.milenage.proofs.Sizes.{are-strings, are-numbers}
 use Rattle.challenge.specs.Form.{withOctet, fieldsOf, fieldOf, same, isOp, isWord, isValue, octetsOf, isChallenge, Given, givenBy}
-use Rattle.challenge.specs.Answer.{opcFor, givenOrder, allResults, allCodes, givenText, ended, answer}
+use Rattle.challenge.specs.Answer.{opcFor, givenOrder, allResults, allCodes, givenText, answerText}
 use Rattle.challenge.proofs.Known.{given-by}
 use Rattle.challenge.proofs.Laws.{text-done, values-with, answer-bad, answer-good}
 use Rattle.challenge.proofs.Values.{ends-six, form-ends}
@@ -91,8 +91,8 @@ length-written {octets} {text} value = length-hexOctets text ∙ omega (arith, v
 -- ---- the answers
 
 -- a line not of the form: `?`
-pub bad-line : (line : List ℕ) → isChallenge line ≡ false → answer line ≡ 63 ∷ 10 ∷ []
-unfolding answer ended
+pub bad-line : (line : List ℕ) → isChallenge line ≡ false → ended (answerText line) ≡ 63 ∷ 10 ∷ []
+unfolding ended
 bad-line line bad = ap ended (answer-bad line bad)
 
 -- the word
@@ -169,6 +169,6 @@ module _ (made : Bool) {key operator rand sqn amf : List ℕ} (key-is : Digits 1
   -- six fields: every value, with OPc made from OP or as given
   pub six-answered :
       let opc = cond made (opcOf (hexOctets key) (hexOctets operator)) (hexOctets operator) in
-      answer sixFields ≡ ended (allResults (hexOctets key) opc (hexOctets rand) ++ allCodes (hexOctets key) opc (hexOctets rand) (hexOctets sqn) (hexOctets amf))
-  unfolding answer opcFor
+      ended (answerText sixFields) ≡ ended (allResults (hexOctets key) opc (hexOctets rand) ++ allCodes (hexOctets key) opc (hexOctets rand) (hexOctets sqn) (hexOctets amf))
+  unfolding opcFor
   six-answered = ap ended (answer-good sixFields of-the-form ∙ ap givenText (sym given-is) ∙ text-done values not-refused ∙ values-with values refl)

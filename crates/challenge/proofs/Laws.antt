@@ -3,7 +3,7 @@
 use Prim.Native.Nat.{ℕ, _≤_, _<_}
 use native.Mathlib.Decide.{decLe}
 use native.Mathlib.Omega.{arith}
-use mathlib.Core.Path.{_≡_, refl, sym, ap, subst, _∙_}
+use mathlib.Core.Path.{_≡_, sym, subst, _∙_}
 use mathlib.Core.Bool.{true, false, _&&_}
 use mathlib.Core.List.{List, [], _∷_, _++_, append-nil}
 use borrow.Author.Tests.{eq-eqb, ne-eqb, eqb-true, eqb-false, lt-leb}
@@ -11,15 +11,16 @@ use lib.Dec.{T, eqb, lit≤}
 use lib.ListN.{length, length-append}
 use Rattle.refusals.specs.Refusal.{first}
 use Rattle.refusals.proofs.Tests.{by-test}
-use Rattle.lines.specs.Text.{decimalText}
+use Rattle.lines.specs.Text.{ended, decimalText}
 use Rattle.lines.specs.Hearing.{tooLong}
-use Rattle.lines.proofs.Hearing.{LongAlike}
+use Rattle.lines.proofs.Hearing.{LongAlike, line-alike}
 use Rattle.lines.proofs.InDecimal.{length-decimalText}
+use Rattle.lines.proofs.Text.{length-ended}
 use Rattle.milenage.specs.Calls.{isString}
 use Rattle.milenage.proofs.Laws.{length-opc, length-f1, length-f1-star, length-f2, length-f3, length-f4, length-f5}
 use Rattle.milenage.proofs.Sizes.{three-sizes}
 use Rattle.challenge.specs.Form.{Given, givenBy, formTests, isChallenge}
-use Rattle.challenge.specs.Answer.{opcFor, givenOrder, allResults, allCodes, valuesText, givenText, answerText, ended, answer, largestAnswer}
+use Rattle.challenge.specs.Answer.{opcFor, givenOrder, allResults, allCodes, valuesText, givenText, answerText, largestAnswer}
 use Rattle.challenge.specs.Challenge.{challengeRules}
 use Rattle.challenge.proofs.Named.{length-results, length-codes}
 use Rattle.challenge.proofs.Values.{form-fails}
@@ -111,13 +112,9 @@ module _ (line : List ℕ) where
 
 -- a line that is too long is answered like any other that is
 pub challenge-alike : LongAlike challengeRules
-unfolding answer tooLong
-challenge-alike = record {
-  answer-alike = λ _ line long. ap ended (answer-bad line (too-long line long) ∙ sym (answer-bad tooLong (too-long tooLong (lit≤ tt))));
-  after-alike = λ _ _ _. refl;
-}
+unfolding tooLong
+challenge-alike = line-alike answerText largestAnswer (λ line long. answer-bad line (too-long line long) ∙ sym (answer-bad tooLong (too-long tooLong (lit≤ tt))))
 
 -- every answer has room in an output that is not refused
-pub challenge-fits : (line : List ℕ) → length (answer line) ≤ largestAnswer
-unfolding answer ended
-challenge-fits line = simp length-append (omega (arith, length-answerText line))
+pub challenge-fits : (line : List ℕ) → length (ended (answerText line)) ≤ largestAnswer
+challenge-fits line = omega (arith, length-ended (answerText line), length-answerText line)

@@ -2,14 +2,14 @@
 -- Assumes nothing.
 use Prim.Native.Nat.{ℕ}
 use native.Mathlib.Omega.{arith}
-use mathlib.Core.Path.{_≡_, refl, sym, _∙_}
+use mathlib.Core.Path.{_≡_, _∙_}
 use mathlib.Core.Bool.{Bool, true, false, _&&_}
 use mathlib.Core.List.{List, []}
 use lib.ListN.{length, replicate}
 use Rattle.refusals.specs.Refusal.{first}
-use Rattle.refusals.specs.Call.{Answered, front, outcome}
+use Rattle.refusals.specs.Call.{Answered, outcome}
 use Rattle.refusals.proofs.Tests.{by-test}
-use Rattle.lines.proofs.Text.{front-whole}
+use Rattle.refusals.proofs.Within.{front-whole}
 use Rattle.milenage.specs.Milenage.{opcOf, f1Output, f1StarOutput, f2Output, f3Output, f4Output, f5Output}
 use Rattle.milenage.specs.Calls.{isString, areNumbers, opcOrder, codeOrder, resultOrder, opcCall}
 use Rattle.milenage.proofs.Laws.{opc-done, length-opc, length-f1, length-f1-star, length-f2, length-f3, length-f4, length-f5}
@@ -57,26 +57,22 @@ module _ (key opc rand : List ℕ) where
 
 -- ---- the outputs
 
--- an output as long as the result is all of it
-whole : (result : List ℕ) (size : ℕ) → length result ≡ size → length (replicate {A = ℕ} size 0) ≡ size → front result (replicate size 0) ≡ result
-whole result size long room = front-whole result (replicate size 0) (long ∙ sym room)
-
 module _ (key opc rand : List ℕ) (right : (isString key && isString opc && isString rand) ≡ true) where
   pub res-is : resultsOf key opc rand .res ≡ f2Output key opc rand
   unfolding resultsOf outcome first resultOrder
-  res-is = rw right (whole (f2Output key opc rand) 8 (length-f2 key opc rand) refl)
+  res-is = rw right (front-whole (f2Output key opc rand) (replicate 8 0) (length-f2 key opc rand))
 
   pub ck-is : resultsOf key opc rand .ck ≡ f3Output key opc rand
   unfolding resultsOf outcome first resultOrder
-  ck-is = rw right (whole (f3Output key opc rand) 16 (length-f3 key opc rand) refl)
+  ck-is = rw right (front-whole (f3Output key opc rand) (replicate 16 0) (length-f3 key opc rand))
 
   pub ik-is : resultsOf key opc rand .ik ≡ f4Output key opc rand
   unfolding resultsOf outcome first resultOrder
-  ik-is = rw right (whole (f4Output key opc rand) 16 (length-f4 key opc rand) refl)
+  ik-is = rw right (front-whole (f4Output key opc rand) (replicate 16 0) (length-f4 key opc rand))
 
   pub ak-is : resultsOf key opc rand .ak ≡ f5Output key opc rand
   unfolding resultsOf outcome first resultOrder
-  ak-is = rw right (whole (f5Output key opc rand) 6 (length-f5 key opc rand) refl)
+  ak-is = rw right (front-whole (f5Output key opc rand) (replicate 6 0) (length-f5 key opc rand))
 
   module _ (sqn amf : List ℕ) where
     codes-refused : areNumbers sqn amf ≡ false → codesOf key opc rand sqn amf .refusal ≡ 5
@@ -88,11 +84,11 @@ module _ (key opc rand : List ℕ) (right : (isString key && isString opc && isS
 
     pub network-is : codesOf key opc rand sqn amf .refusal ≡ 0 → codesOf key opc rand sqn amf .network ≡ f1Output key opc rand sqn amf
     unfolding codesOf outcome first codeOrder
-    network-is done = rw (right, numbers-right done) (whole (f1Output key opc rand sqn amf) 8 (length-f1 key opc rand sqn amf) refl)
+    network-is done = rw (right, numbers-right done) (front-whole (f1Output key opc rand sqn amf) (replicate 8 0) (length-f1 key opc rand sqn amf))
 
     pub phone-is : codesOf key opc rand sqn amf .refusal ≡ 0 → codesOf key opc rand sqn amf .phone ≡ f1StarOutput key opc rand sqn amf
     unfolding codesOf outcome first codeOrder
-    phone-is done = rw (right, numbers-right done) (whole (f1StarOutput key opc rand sqn amf) 8 (length-f1-star key opc rand sqn amf) refl)
+    phone-is done = rw (right, numbers-right done) (front-whole (f1StarOutput key opc rand sqn amf) (replicate 8 0) (length-f1-star key opc rand sqn amf))
 
 -- ---- OPc made from OP
 
@@ -122,7 +118,7 @@ module _ (key operator : List ℕ) {refusal : ℕ} {after : List ℕ} (answered 
     pub opc-is : after ≡ opcOf key operator
     opc-is =
         opc-done key operator (replicate 16 0) answered (two-sizes key operator (opc-strings done) .0) sixteen (omega arith) .1
-        ∙ whole (opcOf key operator) 16 (length-opc key operator sixteen) refl
+        ∙ front-whole (opcOf key operator) (replicate 16 0) (length-opc key operator sixteen)
 
     -- and the order of what is given with it is that of what was given
     pub order-made : (numbered : Bool) (rand sqn amf : List ℕ)

@@ -1,22 +1,24 @@
 -- The laws of the form of a line: the same texts, the octets of a value, and the tests of the form.
 -- Assumes nothing.
-use Prim.Native.Nat.{ℕ, zero, suc, _+_, _*_, _%_, _≤_, _<_}
+use Prim.Native.Nat.{ℕ, suc, _+_, _*_, _%_, _≤_, _<_}
 use native.Mathlib.Omega.{arith}
 use mathlib.Core.Path.{_≡_, refl, ap, ap₂, subst, _∙_}
-use mathlib.Core.Bool.{Bool, true, false, _&&_, and-eq-true-iff}
+use mathlib.Core.Bool.{true, false, _&&_, and-eq-true-iff}
 use mathlib.Core.List.{List, [], _∷_}
 use borrow.Author.Tests.{eq-eqb, ne-eqb, eqb-true, lt-ltb, le-leb, ltb-true, ltb-false}
 use lib.Dec.{eqb, ltb}
 use lib.ListN.{length, getD, drop}
 use lib.Seq.{drop-length}
 use Rattle.refusals.proofs.Tests.{by-test}
+use Rattle.lines.specs.Form.{every}
 use Rattle.lines.specs.Text.{AtFront, hexOctets, isHex, hexOrder, octetsOfHexCall}
 use Rattle.refusals.specs.Call.{Answered, front}
 use Rattle.refusals.proofs.Calls.{refused-keeps}
 use Rattle.lines.proofs.Callers.{put-done, put-refused, hex-fits}
 use Rattle.lines.proofs.Digits.{from-place}
+use Rattle.lines.proofs.Form.{every-fails}
 use Rattle.lines.proofs.Text.{length-hexOctets, hex-bad}
-use Rattle.challenge.specs.Form.{fieldsOf, fieldOf, same, isWord, isValue, octetsOf, endsRight, every, formTests, isChallenge}
+use Rattle.challenge.specs.Form.{fieldsOf, fieldOf, same, isWord, isValue, octetsOf, endsRight, formTests, isChallenge}
 
 -- ---- the same texts
 
@@ -105,13 +107,7 @@ module _ (line : List ℕ) where
   unfolding endsRight
   ends-six six = rw (eq-eqb (length (fieldsOf line)) 6 six)
 
--- where one of the tests fails, not every one holds
-every-fails : (tests : List Bool) (k : ℕ) → getD tests k true ≡ false → every tests ≡ false
-unfolding every
-every-fails [] k fails = fails
-every-fails (test ∷ rest) zero fails = rw fails
-every-fails (test ∷ rest) (suc k) fails = by-test test _ (λ held. rw held (every-fails rest k fails)) (λ failed. rw failed)
-
+-- where one of the tests fails, the line is not of the form
 pub form-fails : (line : List ℕ) (k : ℕ) → getD (formTests line) k true ≡ false → isChallenge line ≡ false
 unfolding isChallenge
 form-fails line k fails = every-fails (formTests line) k fails

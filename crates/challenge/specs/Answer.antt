@@ -42,14 +42,6 @@ givenText given = cond (eqb (first (givenOrder given)) 0) (valuesText given) (de
 unfoldable pub answerText : List ℕ → List ℕ
 answerText line = cond (isChallenge line) (givenText (givenBy line)) (63 ∷ [])
 
--- a text as a line of the output: a line feed ends it
-unfoldable pub ended : List ℕ → List ℕ
-ended text = text ++ 10 ∷ []
-
--- the answer to a line, a line itself
-unfoldable pub answer : List ℕ → List ℕ
-answer line = ended (answerText line)
-
 -- the largest answer: OPc, RES, CK, IK, AK, MAC-A and MAC-S, and the line feed. An output with less room is refused
 abbrev pub largestAnswer : ℕ
 largestAnswer = 192

@@ -6,6 +6,7 @@ use mathlib.Core.Bool.{Bool, true, false, cond, _&&_, _||_}
 use mathlib.Core.List.{List, [], _∷_}
 use lib.Dec.{eqb, leb, ltb}
 use lib.ListN.{length, getD}
+use Rattle.lines.specs.Form.{every}
 use Rattle.lines.specs.Text.{hexOctets, isHex}
 
 -- ---- the fields of a line
@@ -60,11 +61,6 @@ octetsOf field = cond (isValue field) (hexOctets field) []
 unfoldable pub endsRight : List ℕ → Bool
 endsRight line = cond (eqb (length (fieldsOf line)) 6) (isValue (fieldOf 4 line) && isValue (fieldOf 5 line)) (eqb (length (fieldsOf line)) 4)
 
--- every test of a list holds
-unfoldable pub every : List Bool → Bool
-every [] = true
-every (test ∷ rest) = test && every rest
-
 -- the tests of the form
 unfoldable pub formTests : List ℕ → List Bool
 formTests line =
@@ -89,6 +85,7 @@ pub record Given : Type 0 where
   pub sqn : List ℕ
   pub amf : List ℕ
 
+-- what a line of the form gives
 unfoldable pub givenBy : List ℕ → Given
 givenBy line = record {
   made = isOp (fieldOf 1 line);

@@ -3,9 +3,9 @@ ghost use mathlib.Core.Path.{_≡_};
 ghost use mathlib.Core.Bool.{false};
 ghost use Prim.Native.Nat.{_≤_};
 ghost use lib.ListN.{length};
-ghost use Rattle.lines.specs.Text.{AtFront};
+ghost use Rattle.lines.specs.Text.{AtFront, ended};
 ghost use Rattle.challenge.specs.Form.{givenBy};
-ghost use Rattle.challenge.specs.Answer.{givenText, answerText, answer as Answer·answer, largestAnswer};
+ghost use Rattle.challenge.specs.Answer.{givenText, answerText, largestAnswer};
 ghost use Rattle.challenge.specs.Calls.{resultsOf, codesOf};
 use crate::form;
 use crate::texts;
@@ -151,7 +151,7 @@ fn put_text(line: &[u8], output: &mut [u8]) -> usize
 // Puts the answer to a line.
 pub(crate) fn put_answer(line: &[u8], output: &mut [u8]) -> usize
     requires { ⌜ largestAnswer ≤ length (now output) ⌝ }
-    ensures { λ r. ⌜ AtFront (Answer·answer (now (line .entry))) (now (output .entry)) r (now (output .exit)) ⌝ }
+    ensures { λ r. ⌜ AtFront (ended (answerText (now (line .entry)))) (now (output .entry)) r (now (output .exit)) ⌝ }
 {
     let size = put_text(line, output);
     output[size] = LINE_FEED;

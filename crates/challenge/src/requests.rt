@@ -2,10 +2,10 @@
 ghost use mathlib.Core.Path.{_≡_};
 ghost use Prim.Native.Nat.{_≤_};
 ghost use lib.ListN.{length};
-ghost use Rattle.lines.specs.Text.{AtFront};
-ghost use Rattle.lines.specs.Hearing.{silence, heardLine, HearCall, FinishCall};
-ghost use Rattle.challenge.specs.Answer.{answer, largestAnswer};
-ghost use Rattle.challenge.specs.Challenge.{challengeRules, standing};
+ghost use Rattle.lines.specs.Text.{AtFront, ended};
+ghost use Rattle.lines.specs.Hearing.{silence, heardLine, standing, HearCall, FinishCall};
+ghost use Rattle.challenge.specs.Answer.{answerText, largestAnswer};
+ghost use Rattle.challenge.specs.Challenge.{challengeRules};
 use crate::answers;
 use lines::Heard;
 use lines::Put;
@@ -26,7 +26,7 @@ pub(crate) struct Told {
 // Puts the answer to the line heard.
 fn put_heard(heard: Heard, output: &mut [u8]) -> usize
     requires { ⌜ largestAnswer ≤ length (now output) ⌝ }
-    ensures { λ r. ⌜ AtFront (answer (heardLine heard)) (now (output .entry)) r (now (output .exit)) ⌝ }
+    ensures { λ r. ⌜ AtFront (ended (answerText (heardLine heard))) (now (output .entry)) r (now (output .exit)) ⌝ }
 {
     let octets = heard.octets;
     let count = heard.count;

@@ -48,6 +48,17 @@ module _ (text line : List ℕ) (i : ℕ) where
   unfolding begins
   begins-end end = ap (λ (n : ℕ). begins (drop n text) (drop i line)) end ∙ ap (λ (l : List ℕ). begins l (drop i line)) (drop-length text)
 
+-- a line that begins with a hash (35)
+pub begins-hash : (line : List ℕ) → (length line ≡ 0 → ⊥) → getD line 0 0 ≡ 35 → begins (quoted "#") line ≡ true
+unfolding begins
+begins-hash [] some is = absurd (some refl)
+begins-hash (octet ∷ rest) some is = rw (eq-eqb 35 octet (sym is))
+
+pub begins-other : (line : List ℕ) → (length line ≡ 0 → ⊥) → (getD line 0 0 ≡ 35 → ⊥) → begins (quoted "#") line ≡ false
+unfolding begins
+begins-other [] some other = absurd (some refl)
+begins-other (octet ∷ rest) some other = rw (ne-eqb 35 octet (λ same. other (sym same)))
+
 -- a place
 module _ (octet : ℕ) where
   pub place-digit : 48 ≤ octet → octet ≤ 57 → octet - 48 ≡ placeOf octet

@@ -3,7 +3,6 @@ use Prim.Native.Nat.{ℕ, _<_}
 use native.Mathlib.Omega.{arith}
 use mathlib.Core.Path.{_≡_, sym, ap, ap₂, _∙_}
 use mathlib.Core.List.{List, _++_}
-use lib.Dec.{lit≤}
 use lib.ListN.{length, take}
 use Rattle.lines.specs.Text.{AtFront}
 use Rattle.lines.specs.Hearing.{tooLong}
@@ -13,14 +12,13 @@ use Rattle.lines.proofs.Run.{run-writes-answers}
 use Rattle.lines.proofs.Placed.{written-text}
 use Rattle.demo.specs.declared.play.Stage.{Stage}
 use Rattle.demo.specs.declared.play.Play.{Play}
-use Rattle.demo.specs.Acts.{Step, doneFor, obeyed}
+use Rattle.demo.specs.Acts.{Step, obeyed}
 use Rattle.demo.specs.Play.{answer, after, demoRules, standing, newStage, newPlay, heading, demoOutput}
-use Rattle.demo.proofs.Lines.{is-long}
+use Rattle.demo.proofs.Steps.{long-nothing, long-done}
 
 -- a line that is too long is answered, and changes the stage, like any other that is
 long-same : (stage : Stage) (line : List ℕ) → 160 < length line → obeyed stage line ≡ obeyed stage tooLong
-unfolding tooLong obeyed
-long-same stage line long = ap (doneFor stage line) (sym (is-long line (omega arith))) ∙ ap (doneFor stage tooLong) (is-long tooLong (lit≤ tt))
+long-same stage line long = sym (long-nothing stage line (omega arith)) ∙ long-done stage
 
 pub demo-alike : LongAlike demoRules
 unfolding answer after

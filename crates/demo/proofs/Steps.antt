@@ -1,15 +1,16 @@
 -- The laws of what is done for a line: columns joined to a line, and each step.
 -- Assumes nothing.
-use Prim.Native.Nat.{ℕ, _-_, _≤_}
+use Prim.Native.Nat.{ℕ, _-_, _≤_, _<_}
 use native.Mathlib.Omega.{arith}
-use mathlib.Core.Path.{_≡_, ap, ap₂, subst, _∙_}
-use mathlib.Core.Bool.{true, false, _||_}
+use mathlib.Core.Path.{_≡_, ap, subst, _∙_}
+use mathlib.Core.Bool.{_||_}
 use mathlib.Core.List.{List, [], _∷_, _++_, append-assoc}
-use lib.Dec.{eqb}
+use lib.Dec.{eqb, lit≤}
 use lib.ListN.{length, take, length-append}
 use Rattle.refusals.specs.Call.{Outcome, Answered}
 use Rattle.refusals.proofs.Tests.{by-test}
 use Rattle.lines.specs.Text.{isHex, hexOrder, hexOctets, octetsOfHexCall, decimalText, AtFront, Added}
+use Rattle.lines.specs.Hearing.{tooLong}
 use Rattle.lines.proofs.Callers.{put-done, hex-fits, hex-read}
 use Rattle.lines.proofs.Placed.{added-more, at-front-added, written-text}
 use Rattle.lines.proofs.Text.{length-hexOctets}
@@ -21,22 +22,33 @@ use Rattle.receiver.specs.Receiver.{Opening, openCall}
 use Rattle.demo.specs.declared.play.Shelf.{Shelf}
 use Rattle.demo.specs.declared.play.Stage.{Stage}
 use Rattle.demo.specs.declared.acts.Stepped.{Stepped}
-use Rattle.demo.specs.declared.script.Why.the-variants.{Hex}
+use Rattle.demo.specs.declared.script.Why.the-variants.{Long, Hex}
 use Rattle.demo.specs.Words.{quoted}
 use Rattle.demo.specs.Columns.{column, phoneText, cellColumns, silentColumns}
 use Rattle.demo.specs.Ends.{frameRoom, numberIn, phoneAnswer, sealedFrame, phoneAfter, cellAnswer, openedText, frameKept, shelved}
-use Rattle.demo.specs.Acts.{Step, handedColumns, passing, losing, keeping, giving, handing, noising, nothing, HandCall, StepCall}
+use Rattle.demo.specs.Acts.{Step, handedColumns, passing, losing, keeping, giving, handing, noising, nothing, doneFor, obeyed, HandCall, StepCall}
+use Rattle.demo.proofs.Lines.{is-long}
 
 -- ---- columns joined
 
 module _ {before one two : List ℕ} {a b : List ℕ} where
+  -- three texts, one after the other
+  pub three-put : {rest after : List ℕ} {place second-place third-place end : ℕ} → third-place ≤ length before
+      → Added a before place second-place one → Added b one second-place third-place two → Added rest two third-place end after
+      → Added (a ++ (b ++ rest)) before place end after
+  three-put {rest} {after} {place} {end = end} room first second third =
+      subst (λ (l : List ℕ). Added l before place end after) (append-assoc a b rest)
+      (added-more {a = a ++ b} (simp length-append (omega (arith, first .end-is, second .end-is)))
+      (added-more {a = a} (omega (arith, first .end-is, second .end-is)) first second) third)
+
   -- two columns and the rest of a line are the line
   pub line-put : {rest after : List ℕ} {end : ℕ} → 22 ≤ length before
       → Added a before 0 11 one → Added b one 11 22 two → Added rest two 22 end after → AtFront (a ++ (b ++ rest)) before end after
-  line-put {rest} {after} {end} room first second third =
-      let both : length (a ++ b) ≡ 22 = simp length-append (omega (arith, first .end-is, second .end-is)) in
-      subst (λ (l : List ℕ). AtFront l before end after) (append-assoc a b rest)
-      (at-front-added (added-more {a = a ++ b} (omega arith) (added-more {a = a} (omega (arith, first .end-is)) first second) third))
+  line-put room first second third = at-front-added (three-put room first second third)
+
+  -- and so are both at once and the rest
+  pub front-put : {end : ℕ} → 22 ≤ length before → Added a before 0 22 one → Added b one 22 end two → AtFront (a ++ b) before end two
+  front-put room first second = at-front-added (added-more {a = a} (omega (arith, first .end-is)) first second)
 
   -- the four columns of the cell
   pub cell-put : {c rest three after : List ℕ} {end : ℕ} → 55 ≤ length before
@@ -147,6 +159,15 @@ handed cell octets {before} {after} {end = end} is put = record {
   cell-is = ap (λ (o : Outcome Opening). o .lent .receiver) is;
   columns-are = subst (λ (l : List ℕ). Added l before 22 end after) (ap (columnsOf cell octets) is) put;
 }
+
+-- for a line that is too long nothing is done
+pub long-nothing : (stage : Stage) (line : List ℕ) → 48 < length line → nothing stage Long ≡ obeyed stage line
+unfolding obeyed
+long-nothing stage line long = ap (doneFor stage line) (is-long line long)
+
+pub long-done : (stage : Stage) → nothing stage Long ≡ obeyed stage tooLong
+unfolding tooLong
+long-done stage = long-nothing stage tooLong (lit≤ tt)
 
 -- what is done for a step is done for one that equals it
 pub stepped-as : {one other : Step} {before output : List ℕ} {stepped : Stepped} → one ≡ other → StepCall one before stepped output → StepCall other before stepped output

@@ -5,7 +5,7 @@ ghost use lib.ListN.{length, drop, take};
 ghost use Rattle.demo.specs.Words.{quoted};
 ghost use Rattle.demo.specs.Ends.{phoneAnswer, phoneAfter, shelved};
 ghost use Rattle.demo.specs.Play.{room};
-ghost use Rattle.demo.specs.Acts.{passing, losing, keeping, giving, handing, noising, nothing as Acts·nothing, remarking, HandCall, StepCall};
+ghost use Rattle.demo.specs.Acts.{passing, losing, keeping, giving, noising, nothing as Acts·nothing, remarking, HandCall, StepCall};
 use crate::columns;
 use crate::play::Shelf;
 use crate::play::Stage;
@@ -83,23 +83,22 @@ fn hand(cell: Receiver, octets: &[u8], output: &mut [u8]) -> Handed
     let opened = receiver::open(cell, octets, &mut text);
     let refusal = opened.refusal;
     let size = opened.size;
-    let after = opened.receiver;
-    let numbering = after.numbering;
     let end = columns::add_cell(
         (refusal == 0) | ((refusal == refusals::REPEAT) | (refusal == refusals::ROOM)),
         refusal,
         opened.number,
-        numbering.next,
+        opened.receiver.numbering.next,
         &text[..size],
         output,
     );
+    let after = opened.receiver;
     Handed { cell: after, end }
 }
 
 // ---- what is done for a line
 
 // The phone seals a text, and the box hands the frame to the cell.
-pub(crate) fn pass(stage: Stage, text: &[u8], output: &mut [u8]) -> Stepped
+pub(crate) fn pass(mut stage: Stage, text: &[u8], output: &mut [u8]) -> Stepped
     requires { ⌜ room ≤ length (now output) ⌝ }
     ensures { λ r. ⌜ StepCall (passing stage (now (text .entry))) (now (output .entry)) r (now (output .exit)) ⌝ }
 {
@@ -110,16 +109,17 @@ pub(crate) fn pass(stage: Stage, text: &[u8], output: &mut [u8]) -> Stepped
     let size = sealed.size;
     let handed = hand(stage.cell, &frame[..size], output);
     let phone = sealed.sender;
+    stage.phone = phone;
     let cell = handed.cell;
-    let shelf = stage.shelf;
+    stage.cell = cell;
     Stepped {
-        stage: Stage { phone, cell, shelf },
+        stage,
         written: handed.end,
     }
 }
 
 // The phone seals so many frames, and the box loses them all.
-pub(crate) fn lose(stage: Stage, count: u32, output: &mut [u8]) -> Stepped
+pub(crate) fn lose(mut stage: Stage, count: u32, output: &mut [u8]) -> Stepped
     requires { ⌜ (0 < count) × ((count < 1000) × (room ≤ length (now output))) ⌝ }
     ensures { λ r. ⌜ StepCall (losing stage count) (now (output .entry)) r (now (output .exit)) ⌝ }
 {
@@ -128,19 +128,14 @@ pub(crate) fn lose(stage: Stage, count: u32, output: &mut [u8]) -> Stepped
     let sealed = sender::seal(before, b"lost", &mut frame);
     columns::add_sealed(sealed.refusal, sealed.number, output);
     columns::add_counted(b"lost ", count, output, columns::WIDTH);
+    let written = columns::add_silence(stage.cell.numbering.next, output);
     let phone = sealed.sender;
-    let cell = stage.cell;
-    let shelf = stage.shelf;
-    let numbering = cell.numbering;
-    let written = columns::add_silence(numbering.next, output);
-    Stepped {
-        stage: Stage { phone, cell, shelf },
-        written,
-    }
+    stage.phone = phone;
+    Stepped { stage, written }
 }
 
 // The phone seals a text, and the box keeps the frame at place k.
-pub(crate) fn keep(stage: Stage, k: usize, text: &[u8], output: &mut [u8]) -> Stepped
+pub(crate) fn keep(mut stage: Stage, k: usize, text: &[u8], output: &mut [u8]) -> Stepped
     requires { ⌜ (k < 10) × (room ≤ length (now output)) ⌝ }
     ensures { λ r. ⌜ StepCall (keeping stage k (now (text .entry))) (now (output .entry)) r (now (output .exit)) ⌝ }
 {
@@ -149,19 +144,16 @@ pub(crate) fn keep(stage: Stage, k: usize, text: &[u8], output: &mut [u8]) -> St
     columns::add_sealed(sealed.refusal, sealed.number, output);
     columns::add_counted(b"kept ", k as u32, output, columns::WIDTH);
     let size = sealed.size;
-    let phone = sealed.sender;
-    let cell = stage.cell;
     let shelf = shelve(stage.shelf, k, &frame[..size]);
-    let numbering = cell.numbering;
-    let written = columns::add_silence(numbering.next, output);
-    Stepped {
-        stage: Stage { phone, cell, shelf },
-        written,
-    }
+    stage.shelf = shelf;
+    let phone = sealed.sender;
+    stage.phone = phone;
+    let written = columns::add_silence(stage.cell.numbering.next, output);
+    Stepped { stage, written }
 }
 
 // The box hands the frame kept at place k to the cell, and still keeps it.
-pub(crate) fn give(stage: Stage, k: usize, output: &mut [u8]) -> Stepped
+pub(crate) fn give(mut stage: Stage, k: usize, output: &mut [u8]) -> Stepped
     requires { ⌜ (k < 10) × (room ≤ length (now output)) ⌝ }
     ensures { λ r. ⌜ StepCall (giving stage k) (now (output .entry)) r (now (output .exit)) ⌝ }
 {
@@ -172,27 +164,10 @@ pub(crate) fn give(stage: Stage, k: usize, output: &mut [u8]) -> Stepped
     columns::add_column(b"-", output, 0);
     columns::add_counted(b"gave ", k as u32, output, columns::WIDTH);
     let handed = hand(stage.cell, frame_at(&frames, k, size), output);
-    let phone = stage.phone;
     let cell = handed.cell;
+    stage.cell = cell;
     Stepped {
-        stage: Stage { phone, cell, shelf },
-        written: handed.end,
-    }
-}
-
-// The box hands octets of its own to the cell.
-fn hand_over(stage: Stage, octets: &[u8], output: &mut [u8]) -> Stepped
-    requires { ⌜ room ≤ length (now output) ⌝ }
-    ensures { λ r. ⌜ StepCall (handing stage (now (octets .entry))) (now (output .entry)) r (now (output .exit)) ⌝ }
-{
-    columns::add_column(b"-", output, 0);
-    columns::add_column(b"handed", output, columns::WIDTH);
-    let handed = hand(stage.cell, octets, output);
-    let phone = stage.phone;
-    let cell = handed.cell;
-    let shelf = stage.shelf;
-    Stepped {
-        stage: Stage { phone, cell, shelf },
+        stage,
         written: handed.end,
     }
 }
@@ -204,14 +179,12 @@ pub(crate) fn nothing(stage: Stage, why: Why, output: &mut [u8]) -> Stepped
 {
     columns::add_column(b"?", output, 0);
     columns::add_why(why, output);
-    let cell = stage.cell;
-    let numbering = cell.numbering;
-    let written = columns::add_silence(numbering.next, output);
+    let written = columns::add_silence(stage.cell.numbering.next, output);
     Stepped { stage, written }
 }
 
-// The octets that the box hands to the cell are given as pairs of hex digits.
-pub(crate) fn noise(stage: Stage, text: &[u8], output: &mut [u8]) -> Stepped
+// The box hands octets of its own to the cell, which are given as pairs of hex digits.
+pub(crate) fn noise(mut stage: Stage, text: &[u8], output: &mut [u8]) -> Stepped
     requires { ⌜ (length (now text) ≤ 48) × (room ≤ length (now output)) ⌝ }
     ensures { λ r. ⌜ StepCall (noising stage (now (text .entry))) (now (output .entry)) r (now (output .exit)) ⌝ }
 {
@@ -221,7 +194,14 @@ pub(crate) fn noise(stage: Stage, text: &[u8], output: &mut [u8]) -> Stepped
         return nothing(stage, Why::Hex, output);
     }
     let count = put.count;
-    hand_over(stage, &octets[..count], output)
+    columns::add(b"-          handed     ", output, 0);
+    let handed = hand(stage.cell, &octets[..count], output);
+    let cell = handed.cell;
+    stage.cell = cell;
+    Stepped {
+        stage,
+        written: handed.end,
+    }
 }
 
 // A remark is answered by itself.

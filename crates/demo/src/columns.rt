@@ -228,8 +228,7 @@ pub(crate) fn add_silence(next: u32, output: &mut [u8]) -> usize
     requires { ⌜ 102 ≤ length (now output) ⌝ }
     ensures { λ r. ⌜ Added (silentColumns next) (now (output .entry)) 22 r (now (output .exit)) ⌝ }
 {
-    add_column(b"-", output, 22);
-    add_column(b"-", output, 33);
+    add(b"-          -          ", output, 22);
     add_number(next, output, 44);
     add(b"-\n", output, 55);
     57

@@ -21,15 +21,14 @@ struct Moved {
 }
 
 // Hears a piece of the input, octet by octet, and writes each answer.
-fn hear_piece(play: Play, piece: &[u8], output: &mut [u8]) -> Moved
+fn hear_piece(mut play: Play, piece: &[u8], output: &mut [u8]) -> Moved
     requires { ⌜ room ≤ length (now output) ⌝ }
     ensures { λ r. ⌜ (r .on ≡ true → standing (r .play) ≡ heardAfter demoRules (standing play) (now (piece .entry))) ⌝ }
 {
-    let mut so_far = play;
     let mut i = 0;
     while i < piece.len() {
-        so_far = play::hear(so_far, piece[i], output);
-        let written = so_far.written;
+        play = play::hear(play, piece[i], output);
+        let written = play.written;
         if !io::write_all(STDOUT_FILENO, &output[..written]) {
             let nothing = play::new_play();
             return Moved {
@@ -39,10 +38,7 @@ fn hear_piece(play: Play, piece: &[u8], output: &mut [u8]) -> Moved
         }
         i += 1;
     }
-    Moved {
-        play: so_far,
-        on: true,
-    }
+    Moved { play, on: true }
 }
 
 // Reads one piece of the input and hears it. The input ends where nothing can be read.
@@ -66,8 +62,7 @@ fn move_all(output: &mut [u8]) -> Play
     let mut turns = u64::MAX;
     while turns > 0 {
         let moved = move_piece(play, output);
-        let next = moved.play;
-        play = next;
+        play = moved.play;
         if !moved.on {
             return play;
         }

@@ -5,11 +5,12 @@ ghost use Prim.Native.Nat.{_≤_};
 ghost use lib.ListN.{length};
 ghost use Rattle.lines.specs.Text.{AtFront};
 ghost use Rattle.lines.specs.Hearing.{heardLine, HearCall, FinishCall};
-ghost use Rattle.demo.specs.Ends.{emptyShelf};
 ghost use Rattle.demo.specs.Acts.{obeyed, StepCall};
-ghost use Rattle.demo.specs.Play.{room, heading as Play·heading, demoRules, standing, newStage, newPlay};
+ghost use Rattle.demo.specs.Play.{room, heading as Play·heading, demoRules, standing, newPlay};
+use crate::acts;
 use crate::acts::Stepped;
 use crate::script;
+use crate::script::Why;
 use lines::Heard;
 use receiver::Receiver;
 use sender::Sender;
@@ -44,33 +45,19 @@ pub(crate) struct Play {
     pub written: usize,
 }
 
-// Nothing on the shelf.
-fn empty_shelf() -> Shelf
-    ensures { λ r. ⌜ r ≡ emptyShelf ⌝ }
-{
-    Shelf {
-        frames: [0u8; 460],
-        sizes: [0u8; 10],
-    }
-}
-
-// Both ends newly opened on one link, whose key is an example that everybody may know.
-fn new_stage() -> Stage
-    ensures { λ r. ⌜ r ≡ newStage ⌝ }
+// The start: nothing heard, nothing on the shelf, and both ends newly opened on one link, whose key is an example that everybody may know.
+pub(crate) fn new_play() -> Play
+    ensures { λ r. ⌜ r ≡ newPlay ⌝ }
 {
     let key = [0u8, 1, 2, 3, 4, 5, 6, 7, 8, 9, 10, 11, 12, 13, 14, 15];
     let phone = sender::open_sender(&key, IOV, SAPI, DIRECTION).sender;
     let cell = receiver::open_receiver(&key, IOV, SAPI, DIRECTION).receiver;
-    let shelf = empty_shelf();
-    Stage { phone, cell, shelf }
-}
-
-// The start: nothing heard, nothing sealed and nothing accepted.
-pub(crate) fn new_play() -> Play
-    ensures { λ r. ⌜ r ≡ newPlay ⌝ }
-{
+    let shelf = Shelf {
+        frames: [0u8; 460],
+        sizes: [0u8; 10],
+    };
+    let stage = Stage { phone, cell, shelf };
     let heard = lines::silence();
-    let stage = new_stage();
     Play {
         heard,
         stage,
@@ -94,12 +81,11 @@ fn obey_heard(stage: Stage, heard: Heard, output: &mut [u8]) -> Stepped
     requires { ⌜ room ≤ length (now output) ⌝ }
     ensures { λ r. ⌜ StepCall (obeyed stage (heardLine heard)) (now (output .entry)) r (now (output .exit)) ⌝ }
 {
-    let octets = heard.octets;
     let count = heard.count;
     if lines::LONGEST < count {
-        let line = lines::too_long();
-        return script::obey(stage, &line, output);
+        return acts::nothing(stage, Why::Long, output);
     }
+    let octets = heard.octets;
     script::obey(stage, &octets[..count], output)
 }
 

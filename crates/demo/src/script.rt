@@ -145,17 +145,18 @@ fn asked_give(rest: &[u8]) -> Asked
 fn asked_command(line: &[u8]) -> Asked
     ensures { λ r. ⌜ r ≡ askedCommand (now (line .entry)) ⌝ }
 {
+    let after = rest(line, 5);
     if begins(b"pass ", line) {
         return Asked::Pass;
     }
     if begins(b"lose ", line) {
-        return asked_lose(rest(line, 5));
+        return asked_lose(after);
     }
     if begins(b"keep ", line) {
-        return asked_keep(rest(line, 5));
+        return asked_keep(after);
     }
     if begins(b"give ", line) {
-        return asked_give(rest(line, 5));
+        return asked_give(after);
     }
     if begins(b"noise ", line) {
         return Asked::Noise;
@@ -176,7 +177,7 @@ fn asked_by(line: &[u8]) -> Asked
     if !all_printable(line) {
         return Asked::Bad(Why::Octet);
     }
-    if begins(b"#", line) {
+    if line[0] == b'#' {
         return Asked::Remark;
     }
     asked_command(line)

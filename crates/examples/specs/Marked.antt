@@ -11,6 +11,7 @@ use Rattle.numbering.specs.declared.Numbering.{Numbering}
 use Rattle.numbering.specs.Numbering.{width, numberingOf, candidate, candidateOrder, accepted}
 use Rattle.link.specs.Input.{inputOf}
 
+-- an example: what a definition gives, and what the document says
 pub record Example : Type 0 where
   pub given : ℕ
   pub said : ℕ
@@ -19,6 +20,7 @@ pub record Example : Type 0 where
 abbrev pub at : ℕ → Numbering
 at v = numberingOf v 1
 
+-- the examples P1 to P11
 unfoldable pub marked : List Example
 marked =
     -- P1 to P4: INPUT of IOV, SAPI and n; P2 to P4 are arithmetic of the formula alone, since SAPI 0 and 15 are reserved

@@ -1,5 +1,5 @@
 -- The bench frame of document 01, "The link", octet by octet. Assumes nothing.
-use Prim.Native.Nat.{ℕ, _+_, _*_, _/_, _%_, _<_}
+use Prim.Native.Nat.{ℕ, _+_, _*_, _/_, _%_}
 use mathlib.Core.Bool.{Bool, cond, not, _&&_, _||_}
 use mathlib.Core.List.{List, [], _∷_, _++_}
 use lib.Dec.{eqb, leb, ltb}
@@ -7,6 +7,8 @@ use lib.ListN.{length, getD, drop}
 use Rattle.refusals.specs.Refusal.{Row, first}
 use Rattle.refusals.specs.Call.{Call, tells, puts}
 use Rattle.frames.specs.declared.Header.{Header}
+-- every element of a list is an octet
+pub use Rattle.octets.specs.Octets.{AreOctets}
 
 -- a number as two octets, the high one first
 unfoldable pub pair : ℕ → List ℕ
@@ -28,12 +30,9 @@ frame header payload = headerOctets header (length payload) ++ payload
 unfoldable pub headerOf : List ℕ → Header
 headerOf octets = record { sapi = getD octets 3 0 / 16; direction = getD octets 3 0 % 2; sent = pairAt octets 4 }
 
+-- and the payload: all past the six octets of the header
 unfoldable pub payloadOf : List ℕ → List ℕ
 payloadOf octets = drop 6 octets
-
--- each element is an octet
-abbrev pub AreOctets : List ℕ → Type 0
-AreOctets octets = (i : ℕ) → getD octets i 0 < 256
 
 -- the octets are 7 at least, L is 5 to 1,524, and the octets are L + 2
 unfoldable pub isWhole : List ℕ → Bool

@@ -3,11 +3,11 @@
 use Prim.Native.Nat.{ℕ}
 use mathlib.Core.Path.{_≡_}
 use mathlib.Core.List.{List}
-use borrow.Author.Tests.{eq-eqb}
 use lib.ListN.{length}
 use Rattle.refusals.specs.Refusal.{first}
 use Rattle.refusals.specs.Call.{Answered}
 use Rattle.refusals.proofs.Calls.{answered-done}
+use Rattle.octets.proofs.Octets.{whole-key}
 use Rattle.kasumi.specs.Kasumi.{kasumiOrder}
 use Rattle.kasumi.specs.Lent.{roundWords, roundKeysCall}
 
@@ -16,5 +16,5 @@ pub round-keys-done : (key : List ℕ) {refusal : ℕ} {numbers words : List ℕ
     → length key ≡ 16 → (refusal ≡ 0) × (words ≡ roundWords key 8)
 unfolding kasumiOrder first
 round-keys-done key answered long =
-    let done = answered-done (roundKeysCall key) answered (simp (eq-eqb (length key) 16 long)) in
+    let done = answered-done (roundKeysCall key) answered (rw (whole-key key .1 long)) in
     (done .0, done .2)

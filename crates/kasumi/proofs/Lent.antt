@@ -12,6 +12,7 @@ use lib.ListN.{length, getD, length-append, List·getD-append}
 use lib.Seq.{getD-append-add}
 use Rattle.refusals.proofs.Tests.{at-place}
 use Rattle.octets.specs.Bits.{join}
+use Rattle.octets.specs.Octets.{AreOctets}
 use Rattle.octets.proofs.Xored.{xor-assoc}
 use Rattle.sboxes.specs.Tables.{s7, s9}
 use Rattle.sboxes.specs.FiTable.{entryOfNine, entryOfSeven, fiTable}
@@ -23,7 +24,7 @@ use Rattle.kasumi.specs.declared.schedule.Keys.{Keys}
 
 -- ---- FI
 
--- the paper's line of the nine bits, c and g; and that of the seven, d before it meets the key, and h
+-- the paper's line of the nine bits, c and g; and that of the seven, d before it is xored with the key, and h
 abbrev nineLine : ℕ → ℕ → ℕ
 nineLine a b = bitXor (s9 a) b
 
@@ -141,7 +142,7 @@ record AreWords (keys : Keys) : Type 0 where
   ki2 : keys .ki2 < 2 ^ 16
   ki3 : keys .ki3 < 2 ^ 16
 
-module _ (key : List ℕ) (octets : (i : ℕ) → getD key i 0 < 256) where
+module _ (key : List ℕ) (octets : AreOctets key) where
   key-word-lt : (j : ℕ) → keyWord key j < 2 ^ 16
   unfolding keyWord
   key-word-lt j = omega (arith, octets ((j - 1) % 8 * 2), octets ((j - 1) % 8 * 2 + 1))
@@ -259,7 +260,7 @@ module _ (keysOf keysOf′ : ℕ → Keys) (i : ℕ) (same : keysOf i ≡ keysOf
   round-by-table x below = ap (λ (y : ℕ). join 32 (bitXor (right 32 x) y) (left 32 x)) (f-by-table (left 32 x) (omega arith))
 
 -- and so are all eight
-module _ (key : List ℕ) (octets : (i : ℕ) → getD key i 0 < 256) (block : ℕ) (below : block < 2 ^ 64) where
+module _ (key : List ℕ) (octets : AreOctets key) (block : ℕ) (below : block < 2 ^ 64) where
   rounds-lt : (n : ℕ) → rounds fi (roundKeys key) n block < 2 ^ 64
   unfolding rounds
   rounds-lt zero = below

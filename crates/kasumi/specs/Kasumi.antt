@@ -5,10 +5,11 @@ use mathlib.Core.Bool.{cond, not}
 use mathlib.Core.List.{List, [], _∷_}
 use lib.Bits.{bitXor, bitAnd, bitOr}
 use lib.Dec.{eqb}
-use lib.ListN.{length, getD}
+use lib.ListN.{getD}
 use Rattle.refusals.specs.Refusal.{Row}
 use Rattle.refusals.specs.Call.{Call, tells}
 use Rattle.octets.specs.Bits.{join}
+use Rattle.octets.specs.Octets.{isWholeKey}
 use Rattle.sboxes.specs.Tables.{s7, s9}
 use Rattle.kasumi.specs.declared.schedule.Keys.{Keys}
 
@@ -48,7 +49,7 @@ roundKeys key i = record {
   ki3 = keyWord′ key (i + 7);
 }
 
--- FL on 32 bits
+-- FL on the halves L, R of 16 bits: R' = R xor rot1(L and KL1); L' = L xor rot1(R' or KL2)
 unfoldable pub fl : ℕ → ℕ → ℕ → ℕ
 fl kl1 kl2 x =
     let l = left 16 x in
@@ -74,10 +75,14 @@ fi ki x =
 -- FO and the rounds are of a function FI and of the keys of each round. For KASUMI these are the two above; Lent.antt has FI from a table and
 -- keys from a list
 
--- one of the three steps of FO on 32 bits
+-- one of the three steps of FO on 32 bits: new R = FI(L xor KOj, KIj) xor R; new L = old R
 unfoldable pub foStep : (ℕ → ℕ → ℕ) → ℕ → ℕ → ℕ → ℕ
-foStep FI ko ki x = join 16 (right 16 x) (bitXor (FI ki (bitXor (left 16 x) ko)) (right 16 x))
+foStep FI ko ki x =
+    let l = left 16 x in
+    let r = right 16 x in
+    join 16 r (bitXor (FI ki (bitXor l ko)) r)
 
+-- FO: three of these
 unfoldable pub fo : (ℕ → ℕ → ℕ) → Keys → ℕ → ℕ
 fo FI keys x = foStep FI (keys .ko3) (keys .ki3) (foStep FI (keys .ko2) (keys .ki2) (foStep FI (keys .ko1) (keys .ki1) x))
 
@@ -89,20 +94,23 @@ f FI keysOf i x =
 
 -- round i over the halves of 64 bits: the new right is the old left; the new left is the old right xor f of the old left
 unfoldable pub round : (ℕ → ℕ → ℕ) → (ℕ → Keys) → ℕ → ℕ → ℕ
-round FI keysOf i x = join 32 (bitXor (right 32 x) (f FI keysOf i (left 32 x))) (left 32 x)
+round FI keysOf i x =
+    let l = left 32 x in
+    let r = right 32 x in
+    join 32 (bitXor r (f FI keysOf i l)) l
 
 -- the first n rounds
 unfoldable pub rounds : (ℕ → ℕ → ℕ) → (ℕ → Keys) → ℕ → ℕ → ℕ
 rounds FI keysOf zero x = x
 rounds FI keysOf (suc n) x = round FI keysOf (suc n) (rounds FI keysOf n x)
 
--- KASUMI of a block under a key
+-- KASUMI of a block under a key: eight rounds, L8 then R8
 unfoldable pub kasumi : List ℕ → ℕ → ℕ
 kasumi key block = rounds fi (roundKeys key) 8 block
 
 -- the refusals of a call: 1 where the key is not 16 octets
 unfoldable pub kasumiOrder : List ℕ → List Row
-kasumiOrder key = record { number = 1; holds = not (eqb (length key) 16) } ∷ []
+kasumiOrder key = record { number = 1; holds = not (isWholeKey key) } ∷ []
 
 -- kasumi::kasumi hands out the ciphered block
 abbrev pub kasumiCall : List ℕ → ℕ → Call (Unit {0})

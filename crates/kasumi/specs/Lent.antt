@@ -12,7 +12,7 @@ use Rattle.kasumi.specs.declared.schedule.Keys.{Keys}
 -- ---- FI
 
 -- half of FI by a table: the entry of the nine bits on the left xor the entry of the seven on the right. With the table that
--- is handed out for it, a and b become c (nine bits) and S7[b] xor c (seven); once these have met the key, they become g and h
+-- is handed out for it, a and b become c (nine bits) and S7[b] xor c (seven); these, xored with the key, become g and h. docs/FI.md has it by hand
 abbrev pub half : List ℕ → ℕ → ℕ
 half table x = bitXor (getD table (left 7 x) 0) (getD table (512 + right 7 x) 0)
 

@@ -5,9 +5,8 @@ mod schedule;
 
 ghost use mathlib.Core.Path.{_≡_};
 ghost use mathlib.Core.List.{[], _∷_};
-ghost use lib.Dec.{eqb};
-ghost use lib.ListN.{length};
 ghost use Rattle.refusals.specs.Call.{Answered};
+ghost use Rattle.octets.specs.Octets.{isWholeKey};
 ghost use Rattle.kasumi.specs.Kasumi.{kasumiCall};
 ghost use Rattle.kasumi.specs.Lent.{roundKeysCall, cipheredBy};
 
@@ -24,8 +23,8 @@ pub struct RoundKeys {
 }
 
 // A key of KASUMI has 16 octets.
-fn is_key(key: &[u8]) -> bool
-    ensures { λ r. ⌜ r ≡ eqb (length (now (key .entry))) 16 ⌝ }
+fn is_whole_key(key: &[u8]) -> bool
+    ensures { λ r. ⌜ r ≡ isWholeKey (now (key .entry)) ⌝ }
 {
     key.len() == 16
 }
@@ -34,7 +33,7 @@ fn is_key(key: &[u8]) -> bool
 pub fn round_keys(key: &[u8]) -> RoundKeys
     ensures { λ r. ⌜ Answered (roundKeysCall (now (key .entry))) (r .refusal) [] (r .words) ⌝ }
 {
-    if !is_key(key) {
+    if !is_whole_key(key) {
         return RoundKeys {
             refusal: refusals::KEY,
             words: [0u16; 64],
@@ -60,7 +59,7 @@ pub fn cipher_block(table: &[u16; 640], words: &[u16; 64], block: u64) -> u64
 pub fn kasumi(key: &[u8], block: u64) -> Ciphered
     ensures { λ r. ⌜ Answered (kasumiCall (now (key .entry)) block) (r .refusal) (r .block ∷ []) tt ⌝ }
 {
-    if !is_key(key) {
+    if !is_whole_key(key) {
         return Ciphered {
             refusal: refusals::KEY,
             block: 0,

@@ -3,7 +3,7 @@ ghost use mathlib.Core.Path.{_≡_};
 ghost use Prim.Native.Nat.{_<_, _≤_};
 ghost use lib.ListN.{length};
 ghost use lib.Seq.{sets};
-ghost use Rattle.kasumi.specs.Kasumi.{keyWord, keyWord′, constant, rot as Kasumi·rot, roundKeys};
+ghost use Rattle.kasumi.specs.Kasumi.{keyWord, keyWord′, rot as Kasumi·rot, roundKeys};
 ghost use Rattle.kasumi.specs.Lent.{wordsOf, roundWords, keysAt};
 
 const CONSTANTS: [u16; 8] = [

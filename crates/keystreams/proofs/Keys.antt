@@ -17,6 +17,7 @@ use Rattle.refusals.proofs.Calls.{answered-done}
 use Rattle.refusals.proofs.Tests.{by-test}
 use Rattle.octets.specs.Bits.{listed}
 use Rattle.octets.proofs.Listed.{length-listed, getD-listed}
+use Rattle.octets.proofs.Octets.{whole-key}
 use Rattle.keystreams.specs.Key.{isKey, prepared, sourceOf, keyOrder, prepareKeyCall}
 
 -- a key has 8 octets or 16
@@ -25,7 +26,7 @@ unfolding isKey
 key-sizes key is =
     by-test (eqb (length key) 8) ((length key ≡ 8) ⊎ (length key ≡ 16))
     (λ eight. inl (eqb-true (length key) 8 eight))
-    (λ other. inr (eqb-true (length key) 16 (rw other at is)))
+    (λ other. inr (whole-key key .0 (rw other at is)))
 
 pub key-most : (key : List ℕ) → isKey key ≡ true → length key ≤ 16
 key-most key is = ⊎-elim (λ eight. omega (arith, eight)) (λ sixteen. omega (arith, sixteen)) (key-sizes key is)
@@ -42,7 +43,7 @@ prepared-short key eight = rw (eq-eqb (length key) 8 eight)
 -- 16 octets are a key, and yield themselves
 pub whole-is-key : (key : List ℕ) → length key ≡ 16 → isKey key ≡ true
 unfolding isKey
-whole-is-key key sixteen = simp (ne-eqb (length key) 8 (omega (arith, sixteen)), eq-eqb (length key) 16 sixteen)
+whole-is-key key sixteen = rw (ne-eqb (length key) 8 (omega (arith, sixteen)), whole-key key .1 sixteen)
 
 pub prepared-whole : (key : List ℕ) → length key ≡ 16 → prepared key ≡ key
 unfolding prepared

@@ -12,10 +12,11 @@ use Rattle.kgcore.specs.Kgcore.{keyBit}
 use Rattle.keystreams.specs.Key.{isKey, prepared}
 use Rattle.keystreams.specs.declared.kinds.Kind.{Kind}
 
--- the fixed inputs of each kind
+-- the fixed inputs of each kind; CB and CE are zero. GSM: CA 0F, CL 228
 unfoldable pub gsmKind : Kind
 gsmKind = record { ca = 0x0F; cb = 0; ce = 0; cl = 228 }
 
+-- ECSD: CA F0, CL 696
 unfoldable pub ecsdKind : Kind
 ecsdKind = record { ca = 0xF0; cb = 0; ce = 0; cl = 696 }
 
@@ -27,10 +28,11 @@ a5Inputs kind count = record { ca = kind .ca; cb = kind .cb; cc = count; cd = 0;
 unfoldable pub half : Kind → ℕ
 half kind = kind .cl / 2
 
--- BLOCK1 is the first half of the bits, BLOCK2 the second
+-- BLOCK1: the first half of the bits, 0 to 113 for GSM and 0 to 347 for ECSD
 unfoldable pub block1 : Kind → List ℕ → ℕ → List ℕ
 block1 kind key count = stored (keyBit (prepared key) (a5Inputs kind count)) 0 (half kind)
 
+-- BLOCK2: the second half, 114 to 227 and 348 to 695
 unfoldable pub block2 : Kind → List ℕ → ℕ → List ℕ
 block2 kind key count = stored (keyBit (prepared key) (a5Inputs kind count)) (half kind) (half kind)
 

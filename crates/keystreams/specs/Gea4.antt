@@ -11,7 +11,7 @@ use Rattle.kgcore.specs.declared.Inputs.{Inputs}
 use Rattle.kgcore.specs.Kgcore.{keyBit}
 use Rattle.keystreams.specs.Key.{isKey, prepared}
 
--- the inputs of KGCORE: CA is FF, CC is INPUT, CD the direction; CB and CE are zero
+-- GEA4's row, the inputs of KGCORE: CA is FF, CC is INPUT (32 bits), CD the direction; CB and CE are zero; CL, 8M, is in the output below
 unfoldable pub gea4Inputs : ℕ → ℕ → Inputs
 gea4Inputs input direction = record { ca = 0xFF; cb = 0; cc = input; cd = direction; ce = 0 }
 

@@ -6,10 +6,11 @@ use lib.Dec.{eqb, ltb}
 use lib.ListN.{length, replicate}
 use Rattle.refusals.specs.Refusal.{Row}
 use Rattle.refusals.specs.Call.{Call, makes}
+use Rattle.octets.specs.Octets.{isWholeKey}
 
 -- a key is 8 octets, for A5/3 and GEA3, or 16, for A5/4 and GEA4
 unfoldable pub isKey : List ℕ → Bool
-isKey key = eqb (length key) 8 || eqb (length key) 16
+isKey key = eqb (length key) 8 || isWholeKey key
 
 -- the 16 octets that a key yields for KGCORE: a key of 8 octets yields itself twice, one of 16 itself
 unfoldable pub prepared : List ℕ → List ℕ

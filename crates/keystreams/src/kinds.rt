@@ -1,6 +1,6 @@
 // The fixed inputs of each algorithm, named once (document 01; document 004, table B.1).
 
-pub struct Gsm {}
+pub(crate) struct Gsm {}
 
 impl Gsm {
     pub const CA: u8 = 0x0F;
@@ -12,7 +12,7 @@ impl Gsm {
     pub const CL: u32 = 228;
 }
 
-pub struct Ecsd {}
+pub(crate) struct Ecsd {}
 
 impl Ecsd {
     pub const CA: u8 = 0xF0;
@@ -25,7 +25,7 @@ impl Ecsd {
 }
 
 // CL is eight times the octets asked for, so it is no constant here.
-pub struct Gea4 {}
+pub(crate) struct Gea4 {}
 
 impl Gea4 {
     pub const CA: u8 = 0xFF;
@@ -36,7 +36,7 @@ impl Gea4 {
 }
 
 // The fixed inputs of a kind of A5/4, as one value.
-pub struct Kind {
+pub(crate) struct Kind {
     pub ca: u8,
     pub cb: u8,
     pub ce: u16,

@@ -1,6 +1,6 @@
 // The keystreams of document 004: A5/4 for GSM, A5/4 for ECSD and GEA4 for GPRS. Each is KGCORE with the fixed inputs of its kind. Under a key of
 // 8 octets they are A5/3 and GEA3.
-pub mod kinds;
+mod kinds;
 
 ghost use mathlib.Core.Path.{_≡_};
 ghost use Prim.Native.Nat.{_<_, _≤_};

@@ -5,7 +5,7 @@ use mathlib.Core.Path.{_≡_, ap₂}
 use mathlib.Core.Bool.{_||_, false}
 use mathlib.Core.List.{List}
 use native.Mathlib.Omega.{arith}
-use borrow.Author.Tests.{le-ltb, eq-eqb, ne-eqb}
+use borrow.Author.Tests.{le-ltb, ne-eqb}
 use lib.Dec.{eqb, ltb}
 use lib.ListN.{length}
 use Rattle.refusals.specs.Refusal.{first}
@@ -13,6 +13,7 @@ use Rattle.refusals.specs.Call.{Answered, front}
 use Rattle.refusals.proofs.Calls.{answered-done}
 use Rattle.octets.specs.Bits.{size, stored}
 use Rattle.octets.proofs.Number.{bitAt-lt}
+use Rattle.octets.proofs.Octets.{whole-key}
 use Rattle.kgcore.specs.declared.Inputs.{Inputs}
 use Rattle.kgcore.specs.Kgcore.{kgcoreCall, kgcoreOrder, keyBit}
 
@@ -29,5 +30,5 @@ unfolding first kgcoreOrder
 kgcore-done inputs key cl before answered sixteen cb cd some most room =
     let range : (ltb 31 (inputs .cb) || ltb 1 (inputs .cd)) ≡ false = ap₂ _||_ (le-ltb 31 (inputs .cb) cb) (le-ltb 1 (inputs .cd) cd) in
     let bits : (eqb cl 0 || ltb 524288 cl) ≡ false = ap₂ _||_ (ne-eqb cl 0 (omega arith)) (le-ltb 524288 cl most) in
-    let done = answered-done (kgcoreCall inputs key cl before) answered (rw (eq-eqb (length key) 16 sixteen, range, bits, le-ltb (length before) (size cl) room)) in
+    let done = answered-done (kgcoreCall inputs key cl before) answered (rw (whole-key key .1 sixteen, range, bits, le-ltb (length before) (size cl) room)) in
     (done .0, done .2)

@@ -7,14 +7,14 @@ use native.Mathlib.Numerals.{add-one}
 use native.Mathlib.Omega.{arith}
 use lib.Bits.{bitXor, xor-lt}
 use lib.Dec.{lit<}
-use lib.ListN.{getD}
 use Rattle.octets.specs.Bits.{bitAt, octet}
+use Rattle.octets.specs.Octets.{AreOctets}
 use Rattle.octets.proofs.Number.{number-ext, number-bits}
 use Rattle.kasumi.specs.Kasumi.{kasumi}
 use Rattle.kgcore.specs.Kgcore.{block, modified}
 
 -- the modified key is octets, as the key is
-pub modified-octets : (key : List ℕ) → ((i : ℕ) → getD key i 0 < 256) → (i : ℕ) → getD (modified key) i 0 < 256
+pub modified-octets : (key : List ℕ) → AreOctets key → AreOctets (modified key)
 unfolding modified
 modified-octets [] each i = lit< tt
 modified-octets (octet ∷ rest) each zero = xor-lt 8 octet 0x55 (each 0) (lit< tt)

@@ -8,6 +8,7 @@ use lib.ListN.{length}
 use Rattle.refusals.specs.Refusal.{Row}
 use Rattle.refusals.specs.Call.{Call, puts}
 use Rattle.octets.specs.Bits.{bitAt, join, size, stored}
+use Rattle.octets.specs.Octets.{isWholeKey}
 use Rattle.kasumi.specs.Kasumi.{kasumi}
 use Rattle.kgcore.specs.declared.Inputs.{Inputs}
 
@@ -40,7 +41,7 @@ keyBit key inputs i = bitAt 64 (block key (registerA key inputs) (i / 64 + 1)) (
 -- the refusals of a call, in their order
 unfoldable pub kgcoreOrder : List ℕ → Inputs → ℕ → List ℕ → List Row
 kgcoreOrder key inputs cl output =
-    record { number = 1; holds = not (eqb (length key) 16) } ∷
+    record { number = 1; holds = not (isWholeKey key) } ∷
     record { number = 2; holds = ltb 31 (inputs .cb) || ltb 1 (inputs .cd) } ∷
     record { number = 3; holds = eqb cl 0 || ltb 524288 cl } ∷
     record { number = 4; holds = ltb (length output) (size cl) } ∷ []

@@ -2,16 +2,17 @@
 -- Assumes nothing.
 use Prim.Native.Nat.{ℕ, _≤_}
 use native.Mathlib.Omega.{arith}
-use mathlib.Core.Path.{_≡_, sym, ap, _∙_}
+use mathlib.Core.Path.{_≡_, sym, _∙_}
 use mathlib.Core.Bool.{true, false}
 use mathlib.Core.List.{List, [], _∷_}
 use borrow.Author.Tests.{eqb-true, eqb-false}
 use lib.Dec.{eqb}
-use lib.ListN.{length, drop, length-append}
+use lib.ListN.{length}
 use Rattle.refusals.specs.Refusal.{Row, first}
-use Rattle.refusals.specs.Call.{Answered, front}
+use Rattle.refusals.specs.Call.{Answered}
 use Rattle.refusals.proofs.Calls.{answered-done, refused-zeros, head-is}
 use Rattle.refusals.proofs.Tests.{by-test}
+use Rattle.refusals.proofs.Within.{front-within, none-within}
 use Rattle.lines.specs.Digits.{isNumber, valueOf, digitsOrder, digitsCall}
 use Rattle.lines.specs.Text.{roomOrder, putsText, AtFront, isHex, hexOctets, octetsOfHexCall}
 use Rattle.lines.proofs.Text.{room-enough, hex-bad, hex-good}
@@ -57,13 +58,12 @@ module _ (order : List Row) (text before : List ℕ) {refusal count : ℕ} {afte
 
   -- and lies within the output
   pub put-within : count ≤ length after
-  unfolding front
   put-within =
       by-test (eqb refusal 0) (count ≤ length after)
       (λ done.
       let at-front = put-done (eqb-true refusal 0 done) in
-      omega (arith, at-front .written-is, ap length (at-front .output-is), length-append text (drop (length text) before)))
-      (λ refused. omega (arith, put-refused (eqb-false refusal 0 refused)))
+      front-within text before (at-front .written-is) (at-front .output-is) .0)
+      (λ refused. none-within after (put-refused (eqb-false refusal 0 refused)) .0)
 
 -- where there is the room that is asked, the text is put
 pub room-done : (room : ℕ) (text before : List ℕ) {refusal count : ℕ} {after : List ℕ} → Answered (putsText (roomOrder room before) text before) refusal (count ∷ []) after

@@ -14,7 +14,8 @@ use lib.ListN.{length, getD, take, drop, set, length-append, length-set}
 use lib.Seq.{take-suc-set, drop-length}
 use Rattle.refusals.proofs.Tests.{by-test}
 use Rattle.lines.specs.declared.Heard.{Heard}
-use Rattle.lines.specs.Hearing.{silence, kept, tooLong, heardLine, Rules, Standing, hearing, heardAnswer, said, lastSaid, heardAfter}
+use Rattle.lines.specs.Hearing.{silence, kept, tooLong, heardLine, Rules, Standing, lineRules, hearing, heardAnswer, said, lastSaid, heardAfter}
+use Rattle.lines.specs.Text.{ended}
 use Rattle.lines.specs.Lines.{linesFrom, linesOf, answers}
 use Rattle.lines.proofs.Calls.{line-kept, line-too-long}
 use Rattle.lines.proofs.Digits.{from-place}
@@ -81,6 +82,10 @@ held-empty heard line holds =
 pub record LongAlike {S : Type 0} (rules : Rules S) : Type 0 where
   pub answer-alike : (state : S) (line : List ℕ) → 160 < length line → rules .answer state line ≡ rules .answer state tooLong
   pub after-alike : (state : S) (line : List ℕ) → 160 < length line → rules .after state line ≡ rules .after state tooLong
+
+-- rules by the line alone do where the text does
+pub line-alike : (textOf : List ℕ → List ℕ) (room : ℕ) → ((line : List ℕ) → 160 < length line → textOf line ≡ textOf tooLong) → LongAlike (lineRules textOf room)
+line-alike textOf room alike = record { answer-alike = λ _ line long. ap ended (alike line long); after-alike = λ _ _ _. refl }
 
 -- so whatever they say of a line is what they say of the line heard
 held-same : {A : Type 0} (of : List ℕ → A) → ((line : List ℕ) → 160 < length line → of line ≡ of tooLong)

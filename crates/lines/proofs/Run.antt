@@ -7,7 +7,8 @@ use lib.ListN.{length, take, replicate, length-replicate}
 use Rattle.refusals.specs.Call.{Answered, front}
 use Rattle.refusals.proofs.Calls.{done}
 use Rattle.lines.specs.Text.{roomOrder, putsText}
-use Rattle.lines.specs.Hearing.{silence, Rules, Standing, hearing, said, lastSaid, heardAfter, sayCall, HearCall}
+use Rattle.lines.specs.declared.Heard.{Heard}
+use Rattle.lines.specs.Hearing.{silence, Rules, Standing, lineRules, standing, hearing, said, lastSaid, heardAfter, sayCall, HearCall}
 use Rattle.lines.specs.Lines.{linesOf, answers, Run, finished, heard-one}
 use Rattle.lines.proofs.Callers.{room-done}
 use Rattle.lines.proofs.Hearing.{saidBy, LongAlike, said-is-answers}
@@ -59,3 +60,8 @@ module _ {S : Type 0} (rules : Rules S) where
   some-run at [] = (_, finished has-room (record { said-is = some-call (lastSaid rules at) }))
   some-run at (octet ∷ rest) =
       (_, heard-one has-room (record { said-is = some-call (said rules at octet); then-is = refl }) (some-run (hearing rules at octet) rest .1))
+
+-- a whole run by rules where an answer goes by its line alone
+pub run-by-lines : (textOf : List ℕ → List ℕ) (room : ℕ) → LongAlike (lineRules textOf room) → {heard : Heard} {input output : List ℕ}
+    → heard ≡ silence → Run (lineRules textOf room) (standing heard) input output → output ≡ answers (lineRules textOf room) tt (linesOf input)
+run-by-lines textOf room alike begun run = run-writes-answers (lineRules textOf room) alike tt (ap standing begun) run

@@ -5,18 +5,18 @@ use native.Mathlib.Nat.{zero-add, not-suc-le-zero, le-of-suc-le-suc}
 use native.Mathlib.Numerals.{add-one}
 use native.Mathlib.Omega.{arith}
 use mathlib.Core.Path.{_≡_, refl, sym, ap, ap₂, _∙_}
-use mathlib.Core.List.{List, [], _∷_, _++_, append-assoc, append-nil}
+use mathlib.Core.List.{List, [], _∷_, _++_, append-assoc}
 use mathlib.Core.Bool.{Bool, true, false, cond, and-eq-true-iff}
 use borrow.Author.Tests.{lt-ltb, le-ltb, eq-eqb}
 use lib.Dec.{eqb}
-use lib.ListN.{length, getD, take, drop, set, length-append, drop-of-length-le}
+use lib.ListN.{length, getD, take, drop, set, length-append}
 use lib.Seq.{sets, sets-eq, length-take-le, take-suc, take-length, take-append-seam}
 use Rattle.refusals.specs.Refusal.{Row, first}
 use Rattle.refusals.specs.Call.{Answered, front}
 use Rattle.refusals.proofs.Calls.{refused}
 use Rattle.octets.proofs.Listed.{front-store}
 use Rattle.lines.specs.Digits.{digitValue, allDigits}
-use Rattle.lines.specs.Text.{roomOrder, putsText, AtFront, glyphOf, hexText, hexOctets, isHex, hexOrder}
+use Rattle.lines.specs.Text.{roomOrder, putsText, AtFront, ended, glyphOf, hexText, hexOctets, isHex, hexOrder}
 
 -- ---- the front of an output
 
@@ -25,10 +25,10 @@ pub take-front : (text before : List ℕ) → take (length text) (front text bef
 unfolding front
 take-front text before = take-append-seam text (drop (length text) before)
 
--- a text as long as the output is all of it
-pub front-whole : (text before : List ℕ) → length text ≡ length before → front text before ≡ text
-unfolding front
-front-whole text before same = ap (λ (l : List ℕ). text ++ l) (drop-of-length-le before {i = length text} (omega arith)) ∙ append-nil text
+-- with its line feed a text has one octet more
+pub length-ended : (text : List ℕ) → length (ended text) ≡ length text + 1
+unfolding ended
+length-ended text = length-append text (10 ∷ [])
 
 -- octets stored one after the other from place 0 on
 pub stored-front : (text before : List ℕ) → length text ≤ length before → sets before 0 text ≡ front text before

@@ -8,7 +8,7 @@ use lib.Dec.{eqb, leb, ltb}
 use lib.ListN.{take, set, replicate}
 use Rattle.refusals.specs.Call.{Call, Answered}
 use Rattle.lines.specs.declared.Heard.{Heard}
-use Rattle.lines.specs.Text.{roomOrder, putsText}
+use Rattle.lines.specs.Text.{roomOrder, putsText, ended}
 
 -- nothing heard yet
 unfoldable pub silence : Heard
@@ -39,6 +39,14 @@ pub record Rules (S : Type 0) : Type 0 where
 pub record Standing (S : Type 0) : Type 0 where
   pub state : S
   pub heard : Heard
+
+-- the rules where an answer goes by its line alone: it is a text, ended, and nothing goes from line to line
+abbrev pub lineRules : (List ℕ → List ℕ) → ℕ → Rules (Unit {0})
+lineRules textOf room = record { answer = λ _ line. ended (textOf line); after = λ _ _. tt; room = room }
+
+-- there a program stands at the line so far, and at nothing else
+abbrev pub standing : Heard → Standing (Unit {0})
+standing heard = record { state = tt; heard = heard }
 
 module _ {S : Type 0} (rules : Rules S) where
   -- a line feed (10) ends the line: the state goes on, and a new line begins; any other octet is kept

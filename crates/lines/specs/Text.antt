@@ -31,6 +31,10 @@ pub record Added (text before : List ℕ) (place end : ℕ) (after : List ℕ) :
   pub end-is : end ≡ place + length text
   pub output-is : after ≡ take place before ++ (text ++ drop (place + length text) before)
 
+-- a text as a line of the output: a line feed (10) ends it
+unfoldable pub ended : List ℕ → List ℕ
+ended text = text ++ 10 ∷ []
+
 -- the digit of a number below 16, with capital letters
 unfoldable pub glyphOf : ℕ → ℕ
 glyphOf number = cond (ltb number 10) (48 + number) (55 + number)

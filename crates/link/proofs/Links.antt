@@ -2,7 +2,7 @@
 -- Assumes nothing.
 use Prim.Native.Nat.{ℕ, _≤_, _<_}
 use native.Mathlib.Omega.{arith}
-use mathlib.Core.Path.{_≡_, refl, sym, ap₂, _∙_}
+use mathlib.Core.Path.{_≡_, refl, sym, ap₂}
 use mathlib.Core.Logic.{_⊎_, inl, inr}
 use mathlib.Core.Bool.{true, false, and-eq-true-iff, and-false, _||_}
 use mathlib.Core.List.{List}
@@ -15,11 +15,11 @@ use Rattle.refusals.proofs.Among.{among-passes}
 use Rattle.refusals.proofs.Calls.{answered-done}
 use Rattle.refusals.proofs.Laws.{then-and-only-then}
 use Rattle.refusals.proofs.Tests.{by-test}
-use Rattle.keystreams.specs.Key.{isKey, prepared}
+use Rattle.keystreams.specs.Key.{isKey}
 use Rattle.keystreams.proofs.Keys.{length-prepared}
 use Rattle.link.specs.declared.Link.{Link}
 use Rattle.link.specs.Services.{assigned}
-use Rattle.link.specs.Link.{isService, isDirection, linkCanArise, linkOrder, noLink, linkOf, openLinkCall, ciphered, isPayload, cipherOrder, cipherCall}
+use Rattle.link.specs.Link.{isService, isDirection, linkCanArise, linkOrder, noLink, linkOf, ciphered, isPayload, cipherOrder, cipherCall}
 
 -- a service number and a direction that exist fit the frame's four bits and one
 pub service-most : (sapi : ℕ) → isService sapi ≡ true → sapi ≤ 15

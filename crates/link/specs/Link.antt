@@ -25,11 +25,12 @@ isService sapi = isAmong sapi assigned
 unfoldable pub isDirection : ℕ → Bool
 isDirection direction = leb direction 1
 
--- link::can_arise: a link whose service number and direction exist
+-- link::can_arise: a link whose service number and direction exist; 12 is answered where it is not so
 unfoldable pub linkCanArise : Link → Bool
 linkCanArise link = isService (link .sapi) && isDirection (link .direction)
 
--- the refusals of opening a link, and so either end of it, in their order
+-- the refusals of opening a link, and so either end of it, in their order: 1 for a key of neither 8 octets nor 16; 2 for a SAPI that is reserved
+-- (document 02, item 5) or a direction above 1
 unfoldable pub linkOrder : List ℕ → ℕ → ℕ → List Row
 linkOrder key sapi direction =
     record { number = 1; holds = not (isKey key) } ∷
@@ -66,7 +67,7 @@ cipherOrder link payload output =
 abbrev pub cipherCall : Link → ℕ → List ℕ → List ℕ → Call (List ℕ)
 cipherCall link n payload output = puts (cipherOrder link payload output) (ciphered link n payload) output
 
--- what the header of number n says on this link
+-- what the header of number n says on this link: SAPI, direction and, as `sent`, N = n mod 512
 unfoldable pub headerAt : Link → ℕ → Header
 headerAt link n = record { sapi = link .sapi; direction = link .direction; sent = n % 512 }
 

@@ -5,16 +5,11 @@ use native.Mathlib.Omega.{arith}
 use mathlib.Core.Path.{_≡_, sym, ap, ap₂, _∙_}
 use mathlib.Core.List.{List, _++_, append-assoc}
 use lib.ListN.{length, getD, length-append}
-use lib.Seq.{ext-getD}
 use Rattle.octets.specs.Bits.{bitOf, part, octet, listed}
 use Rattle.octets.proofs.Number.{number-ext}
-use Rattle.octets.proofs.Listed.{length-listed, getD-listed, listed-ext, listed-add}
+use Rattle.octets.proofs.Listed.{listed-ext, listed-self, listed-add}
 use Rattle.octets.proofs.Stored.{octet-within, octet-bitOf}
 use Rattle.milenage.specs.Milenage.{in1}
-
--- a list is its elements
-pub listed-self : (l : List ℕ) → listed (λ i. getD l i 0) (length l) ≡ l
-listed-self l = ext-getD 0 _ _ (length-listed _ (length l)) (λ i below. getD-listed _ (length l) i 0 (rw length-listed at below))
 
 -- octet k of a string that is turned by whole octets
 pub turned-octet : (r : ℕ) (string : List ℕ) (k : ℕ) → r % 8 ≡ 0 → k < 16 → getD string ((k + r / 8) % 16) 0 < 2 ^ 8

@@ -2,12 +2,12 @@
 -- Assumes nothing.
 use Prim.Native.Nat.{ℕ, _+_}
 use native.Mathlib.Omega.{arith}
-use mathlib.Core.Path.{_≡_, ap, subst, _∙_}
-use mathlib.Core.List.{List, _++_, append-nil}
+use mathlib.Core.Path.{_≡_, subst, _∙_}
+use mathlib.Core.List.{List}
 use lib.ListN.{length, take, drop, length-drop}
-use lib.Seq.{take-all, drop-length}
+use lib.Seq.{take-all}
 use Rattle.refusals.specs.Refusal.{Row}
-use Rattle.refusals.specs.Call.{Answered, puts, front}
+use Rattle.refusals.specs.Call.{Answered, puts}
 use Rattle.octets.proofs.Xored.{length-xored}
 use Rattle.aes.proofs.Calling.{length-aes}
 use Rattle.milenage.specs.Milenage.{Fixed, out1, out}
@@ -24,11 +24,6 @@ length-out fixed key opc rand = length-xored _ opc ∙ length-aes key _
 -- a part that ends with the string needs no end
 pub to-the-end : (start size : ℕ) (string : List ℕ) → length string ≡ start + size → take size (drop start string) ≡ drop start string
 to-the-end start size string long = take-all size (drop start string) (omega (arith, length-drop start string))
-
--- a string that fills what it is put to
-pub front-whole : (string before : List ℕ) → length string ≡ length before → front string before ≡ string
-unfolding front
-front-whole string before long = ap (λ (n : ℕ). string ++ drop n before) long ∙ ap (λ (l : List ℕ). string ++ l) (drop-length before) ∙ append-nil string
 
 -- an answer by the same result
 pub answered-same : {order : List Row} {result result′ output numbers lent : List ℕ} {refusal : ℕ} → result ≡ result′

@@ -7,11 +7,12 @@ use mathlib.Core.List.{List}
 use borrow.Author.Tests.{eqb-true, eq-eqb}
 use lib.Dec.{eqb}
 use lib.ListN.{length}
+use Rattle.octets.proofs.Octets.{whole-key}
 use Rattle.milenage.specs.Calls.{isString, areNumbers}
 
 pub string-size : (octets : List ℕ) → isString octets ≡ true → length octets ≡ 16
 unfolding isString
-string-size octets is = eqb-true (length octets) 16 is
+string-size octets = whole-key octets .0
 
 pub two-sizes : (key op : List ℕ) → (isString key && isString op) ≡ true → (length key ≡ 16) × (length op ≡ 16)
 two-sizes key op are = let each = and-eq-true-iff (isString key) (isString op) .0 are in (string-size key (each .0), string-size op (each .1))
@@ -33,7 +34,7 @@ number-sizes sqn amf are =
 
 pub is-string : (octets : List ℕ) → length octets ≡ 16 → isString octets ≡ true
 unfolding isString
-is-string octets long = eq-eqb (length octets) 16 long
+is-string octets = whole-key octets .1
 
 pub are-strings : (key opc rand : List ℕ) → length key ≡ 16 → length opc ≡ 16 → length rand ≡ 16 → (isString key && isString opc && isString rand) ≡ true
 are-strings key opc rand long-key long-opc long-rand = rw (is-string key long-key, is-string opc long-opc, is-string rand long-rand)

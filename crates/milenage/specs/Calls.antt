@@ -7,11 +7,12 @@ use lib.Dec.{eqb, ltb}
 use lib.ListN.{length}
 use Rattle.refusals.specs.Refusal.{Row}
 use Rattle.refusals.specs.Call.{Call, puts}
+use Rattle.octets.specs.Octets.{isWholeKey}
 use Rattle.milenage.specs.Milenage.{opcOf, f1Output, f1StarOutput, f2Output, f3Output, f4Output, f5Output, f5StarOutput}
 
--- a string of 128 bits
+-- K, OP, OPc or RAND: a string of 128 bits, as many octets as a whole key has
 unfoldable pub isString : List ℕ → Bool
-isString octets = eqb (length octets) 16
+isString octets = isWholeKey octets
 
 -- SQN has 48 bits, and AMF 16
 unfoldable pub areNumbers : List ℕ → List ℕ → Bool
@@ -19,6 +20,7 @@ areNumbers sqn amf = eqb (length sqn) 6 && eqb (length amf) 2
 
 -- ---- OPc
 
+-- the refusals of OPc, in their order: 1 where the key or OP is not 16 octets, 4 for want of room
 unfoldable pub opcOrder : List ℕ → List ℕ → List ℕ → List Row
 opcOrder key op output =
     record { number = 1; holds = not (isString key && isString op) } ∷
@@ -30,6 +32,7 @@ opcCall key op output = puts (opcOrder key op output) (opcOf key op) output
 
 -- ---- f1 and f1*
 
+-- their refusals, in their order: 1 where the key, OPc or RAND is not 16 octets, 5 for SQN or AMF, 4 for want of room
 unfoldable pub codeOrder : List ℕ → List ℕ → List ℕ → List ℕ → List ℕ → List ℕ → List Row
 codeOrder key opc rand sqn amf output =
     record { number = 1; holds = not (isString key && isString opc && isString rand) } ∷
@@ -46,6 +49,7 @@ f1StarCall key opc rand sqn amf output = puts (codeOrder key opc rand sqn amf ou
 
 -- ---- the others, by the octets of their result
 
+-- their refusals, in their order: 1 where the key, OPc or RAND is not 16 octets, 4 where the output has less than `size` octets
 unfoldable pub resultOrder : ℕ → List ℕ → List ℕ → List ℕ → List ℕ → List Row
 resultOrder size key opc rand output =
     record { number = 1; holds = not (isString key && isString opc && isString rand) } ∷

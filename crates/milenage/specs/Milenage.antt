@@ -13,7 +13,7 @@ use Rattle.aes.specs.Aes.{aes}
 
 -- ---- the constants of the standard's default set (4.1)
 
--- by how many bits the string before an output's encryption turns, and the number of 128 bits that it then meets
+-- by how many bits the string before an output's encryption turns, and the number of 128 bits that it is then xored with
 pub record Fixed : Type 0 where
   pub rotation : ℕ
   pub constant : ℕ

@@ -18,7 +18,8 @@ use kinds::Out4;
 use kinds::Out5;
 use kinds::Res;
 
-// What a result is: the octets from `start` on, `size` of them, of the output before whose encryption a string turns by `rotation` bits and meets `constant`.
+// What a result is: the octets from `start` on, `size` of them, of the output before whose encryption a string turns by `rotation` bits and is xored with
+// `constant`.
 struct Part {
     rotation: usize,
     constant: u8,

@@ -98,7 +98,7 @@ fn temp(words: &[u32; 44], opc: &[u8], rand: &[u8]) -> [u8; 16]
     aes::encrypt_block(words, &block)
 }
 
-// An output, by the round keys, from the string that its constant meets.
+// An output, by the round keys, from the string that is xored with its constant.
 fn last(words: &[u32; 44], opc: &[u8], string: &[u8], number: u8) -> [u8; 16]
     requires { ⌜ (length (now opc) ≡ 16) × (length (now string) ≡ 16) ⌝ }
     ensures { λ r. ⌜ r ≡ xored (cipher (now (words .entry)) (xored (now (string .entry)) (constantOctets number))) (now (opc .entry)) ⌝ }

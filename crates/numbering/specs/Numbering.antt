@@ -15,7 +15,7 @@ use Rattle.numbering.specs.declared.Numbering.{Numbering}
 abbrev pub width : ℕ
 width = 32
 
--- one more than the last number that a frame may have
+-- one more than the last number that a frame may have, which is 2^27 - 1 = 134,217,727; sealing answers 10 here
 unfoldable pub end : ℕ
 end = 2 ^ 27
 
@@ -110,7 +110,7 @@ pub data CannotArise (w : ℕ) (state : Numbering) : Type 0 where
   last-unmarked : 0 < state .next → mark (marksOf state) 0 ≡ 0 → CannotArise w state
   -- a mark below number 0: mark k is of the number V - 1 - k
   mark-below-0 : (k : ℕ) → state .next ≤ k → mark (marksOf state) k ≡ 1 → CannotArise w state
-  -- a mark outside the window
+  -- a mark outside the window; not in the table: a number of 32 bits has no such mark
   mark-outside : (k : ℕ) → w ≤ k → mark (marksOf state) k ≡ 1 → CannotArise w state
 
 -- ---- one step

@@ -7,8 +7,8 @@ use Prim.Native.Nat.{ℕ, zero, suc, _+_, _≤_, _<_}
 use native.Mathlib.Nat.{add-zero, add-suc, eq-or-lt-of-le, le-of-suc-le-suc, not-suc-le-zero}
 use native.Mathlib.Numerals.{add-one}
 use native.Mathlib.Omega.{arith}
-use lib.ListN.{length, getD, set, take, drop, length-append, length-take, length-drop, length-map, take-append-drop, List·getD-append, List·getD-map}
-use lib.Seq.{append-snoc, drop-cons, set-at, getD-at, take-at, drop-at, drop-append-le, drop-drop, ext-getD}
+use lib.ListN.{length, getD, set, take, drop, replicate, length-append, length-take, length-drop, length-map, take-append-drop, List·getD-append, List·getD-map}
+use lib.Seq.{append-snoc, drop-cons, set-at, getD-at, getD-append-add, take-at, drop-at, drop-append-le, drop-drop, ext-getD}
 use Rattle.octets.specs.Bits.{listed}
 
 pub length-listed : (f : ℕ → ℕ) (n : ℕ) → length (listed f n) ≡ n
@@ -31,6 +31,10 @@ listed-ext f g zero same = refl
 listed-ext f g (suc n) same =
     ap₂ (λ (l : List ℕ) (x : ℕ). l ++ (x ∷ [])) (listed-ext f g n (λ i below. same i (omega arith))) (same n (omega arith))
 
+-- a list is its elements
+pub listed-self : (l : List ℕ) → listed (λ i. getD l i 0) (length l) ≡ l
+listed-self l = ext-getD 0 _ _ (length-listed _ (length l)) (λ i below. getD-listed _ (length l) i 0 (rw length-listed at below))
+
 -- m elements and then n more
 pub listed-add : (f : ℕ → ℕ) (m n : ℕ) → listed f (m + n) ≡ listed f m ++ listed (λ i. f (m + i)) n
 unfolding listed
@@ -46,6 +50,16 @@ listed-map f l =
     ext-getD (f 0) _ _
     (length-listed (λ i. f (getD l i 0)) (length l) ∙ sym (length-map l f))
     (λ i below. getD-listed (λ i. f (getD l i 0)) (length l) i (f 0) (rw length-listed at below) ∙ sym (List·getD-map f l i 0))
+
+-- zeros, and past their end nothing, which reads as zero
+pub getD-zeros : (n i : ℕ) → _≡_ {A = ℕ} (getD (replicate n 0) i 0) 0
+getD-zeros zero i = refl
+getD-zeros (suc n) zero = refl
+getD-zeros (suc n) (suc i) = getD-zeros n i
+
+-- past a first list of n elements
+pub getD-past : (first rest : List ℕ) (n i : ℕ) → length first ≡ n → getD (first ++ rest) (n + i) 0 ≡ getD rest i 0
+getD-past first rest n i long = ap (λ (k : ℕ). getD (first ++ rest) k 0) {y = length first + i} (omega (arith, long)) ∙ getD-append-add first rest i 0
 
 -- ---- a buffer whose front is filled
 

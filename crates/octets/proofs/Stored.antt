@@ -4,16 +4,18 @@ use mathlib.Core.Path.{_≡_, sym, ap, ap₂, _∙_}
 use mathlib.Core.Bool.{Bool, true, false, cond}
 use mathlib.Core.List.{List, _++_}
 use Prim.Native.Nat.{ℕ, min, _+_, _-_, _*_, _/_, _%_, _^_, _≤_, _<_}
-use native.Mathlib.Nat.{mod-lt, div-add-mod'}
+use native.Mathlib.Nat.{mod-lt, div-add-mod', div-eq-of-lt}
 use native.Mathlib.Decide.{decLt}
 use native.Mathlib.Omega.{arith}
 use borrow.Author.Tests.{lt-ltb, le-ltb}
 use lib.Arith.{digits-div, digits-mod}
 use lib.Dec.{ltb, lit<}
-use lib.ListN.{length, getD, set, drop, List·getD-append}
+use lib.ListN.{length, getD, set, drop, replicate, List·getD-append}
+use lib.Pow.{pow-pos}
+use lib.Seq.{getD-drop}
 use Rattle.refusals.specs.Call.{front}
 use Rattle.octets.specs.Bits.{bitAt, bitOf, part, number, octet, listed, size, stored}
-use Rattle.octets.proofs.Listed.{length-listed, getD-listed, listed-ext, listed-last}
+use Rattle.octets.proofs.Listed.{length-listed, getD-listed, getD-zeros, getD-past, listed-ext, listed-last}
 use Rattle.octets.proofs.Number.{bitAt-lt, number-ext, number-zeros, number-whole, bit-number}
 
 -- ---- bit strings and their parts
@@ -136,3 +138,28 @@ pub stored-cut : (f : ℕ → ℕ) (s n : ℕ) (rest : List ℕ) (start count : 
 stored-cut f s n rest start count within bits =
     stored-ext (bitOf (stored f s n ++ rest)) f start (s + start) count λ i below.
     bit-of-stored-front f s n rest (start + i) (omega arith) bits ∙ ap f (omega arith)
+
+-- ---- octets with zeros after them
+
+-- every bit of an octet 0 is 0
+no-bit : (i : ℕ) → bitAt 8 0 i ≡ 0
+unfolding bitAt
+no-bit i = ap (λ (x : ℕ). x % 2) (div-eq-of-lt (pow-pos (8 - 1 - i)))
+
+-- octets that hold n bits, and zero octets after these, have those n bits and zeros
+pub zeros-after : (f : ℕ → ℕ) (s n room : ℕ) → ((j : ℕ) → f j < 2) → (j : ℕ) → bitOf (stored f s n ++ drop (size n) (replicate room 0)) j ≡ part f s n j
+unfolding bitOf size
+zeros-after f s n room bits j =
+    let held : List ℕ = stored f s n in
+    let after : List ℕ = drop (size n) (replicate room 0) in
+    elim (decLt j (8 * size n)) [
+      | yes h ↦ part-of-stored f s n after j h bits
+      | no h ↦
+          ap (λ (x : ℕ). bitAt 8 x (j % 8))
+          (ap (λ (k : ℕ). getD (held ++ after) k 0) {y = size n + (j / 8 - size n)} (omega arith)
+          ∙ getD-past held after (size n) (j / 8 - size n) (length-stored f s n)
+          ∙ getD-drop (size n) (replicate room 0) (j / 8 - size n) 0
+          ∙ getD-zeros room (size n + (j / 8 - size n)))
+          ∙ no-bit (j % 8)
+          ∙ sym (part-out f s n j (omega arith))
+    ]

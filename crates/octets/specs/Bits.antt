@@ -18,9 +18,9 @@ join width l r = l * 2 ^ width + r
 unfoldable pub bitOf : List ℕ → ℕ → ℕ
 bitOf octets i = bitAt 8 (getD octets (i / 8) 0) (i % 8)
 
--- `length` bits of a bit string from bit `start` on; past them every bit is zero
+-- `count` bits of a bit string from bit `start` on; past them every bit is zero
 unfoldable pub part : (ℕ → ℕ) → ℕ → ℕ → ℕ → ℕ
-part bit start length i = cond (ltb i length) (bit (start + i)) 0
+part bit start count i = cond (ltb i count) (bit (start + i)) 0
 
 -- octets::octet_or_zero: the octet at a place, or 0 past the end
 abbrev pub octetOrZero : List ℕ → ℕ → ℕ
@@ -48,6 +48,6 @@ listed f (suc n) = listed f n ++ (f n ∷ [])
 unfoldable pub size : ℕ → ℕ
 size n = (n + 7) / 8
 
--- the octets that hold `length` bits of a bit string from bit `start` on, with zero for each spare bit of the last octet
+-- a bit string stored in octets: `count` bits of it from bit `start` on, the first bit highest, zero for each spare bit of the last octet
 unfoldable pub stored : (ℕ → ℕ) → ℕ → ℕ → List ℕ
-stored bit start length = listed (octet (part bit start length)) (size length)
+stored bit start count = listed (octet (part bit start count)) (size count)

@@ -6,7 +6,7 @@ use native.Mathlib.Omega.{arith}
 use mathlib.Core.Path.{_≡_, ap, ap₂, _∙_}
 use mathlib.Core.Bool.{true, false, _||_}
 use mathlib.Core.List.{List, [], _∷_, _++_}
-use borrow.Author.Tests.{eq-eqb, lt-ltb, le-ltb, le-leb}
+use borrow.Author.Tests.{lt-ltb, le-ltb, le-leb}
 use lib.Bits.{bitXor, xor-lt}
 use lib.Dec.{ltb}
 use lib.ListN.{length, replicate}
@@ -15,13 +15,14 @@ use Rattle.refusals.specs.Call.{Answered, front}
 use Rattle.refusals.proofs.Calls.{answered-done, head-is}
 use Rattle.octets.specs.Bits.{bitOf, size, stored}
 use Rattle.octets.proofs.Listed.{listed-ext}
+use Rattle.octets.proofs.Octets.{whole-key}
 use Rattle.octets.proofs.Stored.{bitOf-lt, stored-ext, bit-of-stored-front}
 use Rattle.octets.proofs.Xored.{xor-twice}
 use Rattle.kgcore.specs.Kgcore.{keyBit}
 use Rattle.kgcore.proofs.Laws.{keyBit-lt}
 use Rattle.pair.specs.declared.F8Inputs.{F8Inputs}
 use Rattle.pair.specs.declared.F9Inputs.{F9Inputs}
-use Rattle.pair.specs.Message.{isKey, isSize}
+use Rattle.pair.specs.Message.{isBitCount}
 use Rattle.pair.specs.F8.{f8Core, f8Bit, f8Output, f8Order, f8Call}
 use Rattle.pair.specs.F9.{bitsOf, zerosAfter, padded, codeOf, f9Code, f9Order, f9Call}
 
@@ -63,13 +64,9 @@ module _ (message message′ : List ℕ) (bits : ℕ) (same : (i : ℕ) → i < 
 
 -- ---- for the callers
 
--- what is in range is a key and a size
-taken-key : (key : List ℕ) → length key ≡ 16 → isKey key ≡ true
-unfolding isKey
-taken-key key sixteen = eq-eqb (length key) 16 sixteen
-
-taken-size : (bits : ℕ) → 0 < bits → bits ≤ 20000 → isSize bits ≡ true
-unfolding isSize
+-- what is in range is a count of bits
+taken-size : (bits : ℕ) → 0 < bits → bits ≤ 20000 → isBitCount bits ≡ true
+unfolding isBitCount
 taken-size bits some most = rw (lt-ltb 0 bits some, le-leb bits 20000 most)
 
 -- where no cause of a refusal holds f8 puts its output, and the octets past it are kept
@@ -80,7 +77,7 @@ unfolding first f8Order
 f8-done inputs key message bits before answered sixteen bearer way some most enough room =
     let range : (ltb 31 (inputs .bearer) || ltb 1 (inputs .direction)) ≡ false = ap₂ _||_ (le-ltb 31 (inputs .bearer) bearer) (le-ltb 1 (inputs .direction) way) in
     let done = answered-done (f8Call inputs key message bits before) answered
-    (rw (taken-key key sixteen, range, taken-size bits some most, le-ltb (length message) (size bits) enough, le-ltb (length before) (size bits) room)) in
+    (rw (whole-key key .1 sixteen, range, taken-size bits some most, le-ltb (length message) (size bits) enough, le-ltb (length before) (size bits) room)) in
     (done .0, done .2)
 
 -- and f9 hands out the code
@@ -90,5 +87,5 @@ pub f9-done : (inputs : F9Inputs) (key message : List ℕ) (bits : ℕ) {refusal
 unfolding first f9Order
 f9-done inputs key message bits answered sixteen way some most enough =
     let done = answered-done (f9Call inputs key message bits) answered
-    (rw (taken-key key sixteen, le-ltb 1 (inputs .direction) way, taken-size bits some most, le-ltb (length message) (size bits) enough)) in
+    (rw (whole-key key .1 sixteen, le-ltb 1 (inputs .direction) way, taken-size bits some most, le-ltb (length message) (size bits) enough)) in
     (done .0, head-is (done .1))

@@ -1,31 +1,17 @@
 -- The padded string of f9, bit by bit.
 -- Assumes nothing.
-use Prim.Native.Nat.{ℕ, zero, suc, _+_, _-_, _*_, _/_, _%_, _<_}
-use native.Mathlib.Nat.{div-eq-of-lt}
-use native.Mathlib.Decide.{decLt}
+use Prim.Native.Nat.{ℕ, zero, suc, _+_, _<_}
 use native.Mathlib.Omega.{arith}
-use mathlib.Core.Path.{_≡_, refl, sym, ap, _∙_}
+use mathlib.Core.Path.{_≡_, refl, ap, _∙_}
 use mathlib.Core.List.{List, [], _∷_, _++_, append-assoc}
 use lib.Dec.{lit<}
-use lib.ListN.{length, getD, drop, replicate, length-append, length-replicate, List·getD-append}
-use lib.Pow.{pow-pos}
-use lib.Seq.{getD-append-add, getD-drop}
-use Rattle.octets.specs.Bits.{bitAt, bitOf, part, listed, size, stored}
-use Rattle.octets.proofs.Listed.{length-listed, getD-listed}
+use lib.ListN.{length, getD, replicate, length-append, length-replicate, List·getD-append}
+use Rattle.octets.specs.Bits.{bitAt, bitOf, listed}
+use Rattle.octets.proofs.Listed.{length-listed, getD-listed, getD-zeros, getD-past}
 use Rattle.octets.proofs.Number.{bitAt-lt}
-use Rattle.octets.proofs.Stored.{part-out, bitOf-lt, length-stored, part-of-stored}
+use Rattle.octets.proofs.Stored.{bitOf-lt}
 use Rattle.pair.specs.declared.F9Inputs.{F9Inputs}
 use Rattle.pair.specs.F9.{bitsOf, zerosAfter, padded}
-
--- zeros, and past their end nothing, which reads as zero
-zeros : (n i : ℕ) → _≡_ {A = ℕ} (getD (replicate n 0) i 0) 0
-zeros zero i = refl
-zeros (suc n) zero = refl
-zeros (suc n) (suc i) = zeros n i
-
--- past a first list of n elements
-past : (first rest : List ℕ) (n i : ℕ) → length first ≡ n → getD (first ++ rest) (n + i) 0 ≡ getD rest i 0
-past first rest n i long = ap (λ (k : ℕ). getD (first ++ rest) k 0) {y = length first + i} (omega (arith, long)) ∙ getD-append-add first rest i 0
 
 -- a list of bits, and another after it, are bits
 record AreBits (l : List ℕ) : Type 0 where
@@ -52,7 +38,7 @@ listed-bits f zero bits = record { at = λ i. lit< tt }
 listed-bits f (suc n) bits = append-bits (listed f n) (f n ∷ []) (listed-bits f n bits) (one-bits (f n) (bits n))
 
 zeros-bits : (n : ℕ) → AreBits (replicate n 0)
-zeros-bits n = record { at = λ i. rw (zeros n i) (lit< tt) }
+zeros-bits n = record { at = λ i. rw (getD-zeros n i) (lit< tt) }
 
 module _ (inputs : F9Inputs) (message : List ℕ) (bits : ℕ) where
   -- what comes after the message, after FRESH, and after COUNT
@@ -81,7 +67,7 @@ module _ (inputs : F9Inputs) (message : List ℕ) (bits : ℕ) where
   pub fresh-bit : (i : ℕ) → i < 32 → getD (padded inputs message bits) (32 + i) 0 ≡ bitAt 32 (inputs .fresh) i
   fresh-bit i below =
       ap (λ (l : List ℕ). getD l (32 + i) 0) in-parts
-      ∙ past (bitsOf 32 (inputs .count)) fresh-on 32 i (length-listed (bitAt 32 (inputs .count)) 32)
+      ∙ getD-past (bitsOf 32 (inputs .count)) fresh-on 32 i (length-listed (bitAt 32 (inputs .count)) 32)
       ∙ List·getD-append (bitsOf 32 (inputs .fresh)) tail 0 i (omega (arith, length-listed (bitAt 32 (inputs .fresh)) 32))
       ∙ getD-listed (bitAt 32 (inputs .fresh)) 32 i 0 below
 
@@ -89,8 +75,8 @@ module _ (inputs : F9Inputs) (message : List ℕ) (bits : ℕ) where
   tail-bit i =
       ap (λ (l : List ℕ). getD l (64 + i) 0) in-parts
       ∙ ap (λ (k : ℕ). getD whole k 0) {y = 32 + (32 + i)} (omega arith)
-      ∙ past (bitsOf 32 (inputs .count)) fresh-on 32 (32 + i) (length-listed (bitAt 32 (inputs .count)) 32)
-      ∙ past (bitsOf 32 (inputs .fresh)) tail 32 i (length-listed (bitAt 32 (inputs .fresh)) 32)
+      ∙ getD-past (bitsOf 32 (inputs .count)) fresh-on 32 (32 + i) (length-listed (bitAt 32 (inputs .count)) 32)
+      ∙ getD-past (bitsOf 32 (inputs .fresh)) tail 32 i (length-listed (bitAt 32 (inputs .fresh)) 32)
 
   pub message-bit : (i : ℕ) → i < bits → getD (padded inputs message bits) (64 + i) 0 ≡ bitOf message i
   message-bit i below =
@@ -99,7 +85,7 @@ module _ (inputs : F9Inputs) (message : List ℕ) (bits : ℕ) where
       ∙ getD-listed (bitOf message) bits i 0 below
 
   ending-bit : (i : ℕ) → getD (padded inputs message bits) (64 + (bits + i)) 0 ≡ getD ending i 0
-  ending-bit i = tail-bit (bits + i) ∙ past (listed (bitOf message) bits) ending bits i (length-listed (bitOf message) bits)
+  ending-bit i = tail-bit (bits + i) ∙ getD-past (listed (bitOf message) bits) ending bits i (length-listed (bitOf message) bits)
 
   pub direction-bit : getD (padded inputs message bits) (64 + (bits + 0)) 0 ≡ bitAt 1 (inputs .direction) 0
   unfolding listed
@@ -111,7 +97,7 @@ module _ (inputs : F9Inputs) (message : List ℕ) (bits : ℕ) where
 
   pub zero-bit : (i : ℕ) → getD (padded inputs message bits) (64 + (bits + (2 + i))) 0 ≡ 0
   unfolding listed
-  zero-bit i = ending-bit (2 + i) ∙ past (bitsOf 1 (inputs .direction) ++ (1 ∷ [])) (replicate (zerosAfter bits) 0) 2 i refl ∙ zeros (zerosAfter bits) i
+  zero-bit i = ending-bit (2 + i) ∙ getD-past (bitsOf 1 (inputs .direction) ++ (1 ∷ [])) (replicate (zerosAfter bits) 0) 2 i refl ∙ getD-zeros (zerosAfter bits) i
 
   pub length-padded : length (padded inputs message bits) ≡ 66 + bits + zerosAfter bits
   unfolding listed
@@ -147,28 +133,3 @@ module _ (inputs : F9Inputs) (message : List ℕ) (bits : ℕ) where
 
   pub padded-bits : (i : ℕ) → getD (padded inputs message bits) i 0 < 2
   padded-bits i = are-bits .at i
-
--- ---- octets with zeros after them
-
--- every bit of an octet 0 is 0
-no-bit : (i : ℕ) → bitAt 8 0 i ≡ 0
-unfolding bitAt
-no-bit i = ap (λ (x : ℕ). x % 2) (div-eq-of-lt (pow-pos (8 - 1 - i)))
-
--- octets that hold n bits, and zero octets after these, have those n bits and zeros
-pub zeros-after : (f : ℕ → ℕ) (s n room : ℕ) → ((j : ℕ) → f j < 2) → (j : ℕ) → bitOf (stored f s n ++ drop (size n) (replicate room 0)) j ≡ part f s n j
-unfolding bitOf size
-zeros-after f s n room bits j =
-    let held : List ℕ = stored f s n in
-    let after : List ℕ = drop (size n) (replicate room 0) in
-    elim (decLt j (8 * size n)) [
-      | yes h ↦ part-of-stored f s n after j h bits
-      | no h ↦
-          ap (λ (x : ℕ). bitAt 8 x (j % 8))
-          (ap (λ (k : ℕ). getD (held ++ after) k 0) {y = size n + (j / 8 - size n)} (omega arith)
-          ∙ past held after (size n) (j / 8 - size n) (length-stored f s n)
-          ∙ getD-drop (size n) (replicate room 0) (j / 8 - size n) 0
-          ∙ zeros room (size n + (j / 8 - size n)))
-          ∙ no-bit (j % 8)
-          ∙ sym (part-out f s n j (omega arith))
-    ]

@@ -8,9 +8,10 @@ use lib.ListN.{length}
 use Rattle.refusals.specs.Refusal.{Row}
 use Rattle.refusals.specs.Call.{Call, puts}
 use Rattle.octets.specs.Bits.{bitOf, size, stored}
+use Rattle.octets.specs.Octets.{isWholeKey}
 use Rattle.kgcore.specs.declared.Inputs.{Inputs}
 use Rattle.kgcore.specs.Kgcore.{keyBit}
-use Rattle.pair.specs.Message.{isKey, isSize}
+use Rattle.pair.specs.Message.{isBitCount}
 use Rattle.pair.specs.declared.F8Inputs.{F8Inputs}
 
 -- the inputs of KGCORE: BEARER stands in CB, COUNT in CC, DIRECTION in CD; CA and CE are zero (A.3)
@@ -28,9 +29,9 @@ f8Output inputs key message bits = stored (f8Bit inputs key message) 0 bits
 -- the refusals of a call, in their order
 unfoldable pub f8Order : F8Inputs → List ℕ → List ℕ → ℕ → List ℕ → List Row
 f8Order inputs key message bits output =
-    record { number = 1; holds = not (isKey key) } ∷
+    record { number = 1; holds = not (isWholeKey key) } ∷
     record { number = 2; holds = ltb 31 (inputs .bearer) || ltb 1 (inputs .direction) } ∷
-    record { number = 3; holds = not (isSize bits) } ∷
+    record { number = 3; holds = not (isBitCount bits) } ∷
     record { number = 5; holds = ltb (length message) (size bits) } ∷
     record { number = 4; holds = ltb (length output) (size bits) } ∷ []
 

@@ -10,9 +10,10 @@ use lib.ListN.{length, getD, replicate}
 use Rattle.refusals.specs.Refusal.{Row}
 use Rattle.refusals.specs.Call.{Call, noCandidate, tells}
 use Rattle.octets.specs.Bits.{bitAt, bitOf, number, listed, size}
+use Rattle.octets.specs.Octets.{isWholeKey}
 use Rattle.octets.specs.Xor.{xored}
 use Rattle.kasumi.specs.Kasumi.{left, kasumi}
-use Rattle.pair.specs.Message.{isKey, isSize}
+use Rattle.pair.specs.Message.{isBitCount}
 use Rattle.pair.specs.declared.F9Inputs.{F9Inputs}
 
 -- ---- the padded string PS, a list of bits
@@ -68,9 +69,9 @@ f9Code inputs key message bits = codeOf key (padded inputs message bits)
 -- the refusals of a call, in their order
 unfoldable pub f9Order : F9Inputs → List ℕ → List ℕ → ℕ → List Row
 f9Order inputs key message bits =
-    record { number = 1; holds = not (isKey key) } ∷
+    record { number = 1; holds = not (isWholeKey key) } ∷
     record { number = 2; holds = ltb 1 (inputs .direction) } ∷
-    record { number = 3; holds = not (isSize bits) } ∷
+    record { number = 3; holds = not (isBitCount bits) } ∷
     record { number = 5; holds = ltb (length message) (size bits) } ∷ []
 
 -- pair::f9 hands out the code

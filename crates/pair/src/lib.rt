@@ -10,7 +10,8 @@ ghost use Prim.Native.Nat.{_≤_, _<_};
 ghost use lib.ListN.{length};
 ghost use Rattle.refusals.specs.Call.{Answered, front};
 ghost use Rattle.octets.specs.Bits.{size as Bits·size};
-ghost use Rattle.pair.specs.Message.{isKey, isSize};
+ghost use Rattle.octets.specs.Octets.{isWholeKey};
+ghost use Rattle.pair.specs.Message.{isBitCount};
 ghost use Rattle.pair.specs.F8.{f8Output, f8Call};
 ghost use Rattle.pair.specs.F9.{f9Call, checkCall};
 use kgcore::Inputs;
@@ -46,15 +47,15 @@ pub struct Checked {
 }
 
 // A key of the pair has 16 octets; 8 will not do here.
-fn is_key(key: &[u8]) -> bool
-    ensures { λ r. ⌜ r ≡ isKey (now (key .entry)) ⌝ }
+fn is_whole_key(key: &[u8]) -> bool
+    ensures { λ r. ⌜ r ≡ isWholeKey (now (key .entry)) ⌝ }
 {
     key.len() == 16
 }
 
 // A message has 1 to 20,000 bits.
-fn is_size(bits: u32) -> bool
-    ensures { λ r. ⌜ r ≡ isSize bits ⌝ }
+fn is_bit_count(bits: u32) -> bool
+    ensures { λ r. ⌜ r ≡ isBitCount bits ⌝ }
 {
     (0 < bits) & (bits <= MOST_BITS)
 }
@@ -95,13 +96,13 @@ fn put_ciphered(inputs: F8Inputs, key: &[u8], message: &[u8], bits: u32, output:
 pub fn f8(inputs: F8Inputs, key: &[u8], message: &[u8], bits: u32, output: &mut [u8]) -> u8
     ensures { λ r. ⌜ Answered (f8Call inputs (now (key .entry)) (now (message .entry)) bits (now (output .entry))) r [] (now (output .exit)) ⌝ }
 {
-    if !is_key(key) {
+    if !is_whole_key(key) {
         return refusals::KEY;
     }
     if 31 < inputs.bearer || 1 < inputs.direction {
         return refusals::RANGE;
     }
-    if !is_size(bits) {
+    if !is_bit_count(bits) {
         return refusals::SIZE;
     }
     let size = octets::size(bits);
@@ -119,7 +120,7 @@ pub fn f8(inputs: F8Inputs, key: &[u8], message: &[u8], bits: u32, output: &mut 
 pub fn f9(inputs: F9Inputs, key: &[u8], message: &[u8], bits: u32) -> Code
     ensures { λ r. ⌜ Answered (f9Call inputs (now (key .entry)) (now (message .entry)) bits) (r .refusal) (r .code ∷ []) tt ⌝ }
 {
-    if !is_key(key) {
+    if !is_whole_key(key) {
         return Code {
             refusal: refusals::KEY,
             code: 0,
@@ -131,7 +132,7 @@ pub fn f9(inputs: F9Inputs, key: &[u8], message: &[u8], bits: u32) -> Code
             code: 0,
         };
     }
-    if !is_size(bits) {
+    if !is_bit_count(bits) {
         return Code {
             refusal: refusals::SIZE,
             code: 0,

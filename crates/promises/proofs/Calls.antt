@@ -6,7 +6,7 @@ use Rattle.refusals.proofs.Calls.{answers, determined, of-all}
 use Rattle.octets.specs.Cut.{cutOrder}
 use Rattle.octets.specs.Xor.{xorOrder}
 use Rattle.kasumi.specs.Kasumi.{kasumiOrder}
-use Rattle.aes.specs.Aes.{keyOrder as Aes·keyOrder, aesOrder}
+use Rattle.aes.specs.Aes.{expandKeyOrder, aesOrder}
 use Rattle.kgcore.specs.Kgcore.{kgcoreOrder}
 use Rattle.keystreams.specs.Key.{keyOrder}
 use Rattle.keystreams.specs.A5.{a5Order}
@@ -51,7 +51,7 @@ abbrev IsOrder : (Lent : Type 0) → Call Lent → Type 0
 IsOrder Lent call = T (isOrder (call .order))
 
 orders : All (Always IsOrder) publicCalls
-unfolding cutOrder xorOrder kasumiOrder Aes·keyOrder aesOrder kgcoreOrder keyOrder a5Order gea4Order f8Order f9Order opcOrder codeOrder resultOrder candidateOrder numberOrder lookOrder headerOrder linkOrder cipherOrder sealOrder openOrder digitsOrder roomOrder hexOrder
+unfolding cutOrder xorOrder kasumiOrder expandKeyOrder aesOrder kgcoreOrder keyOrder a5Order gea4Order f8Order f9Order opcOrder codeOrder resultOrder candidateOrder numberOrder lookOrder headerOrder linkOrder cipherOrder sealOrder openOrder digitsOrder roomOrder hexOrder
 orders =
     tt ⊗ tt ⊗ tt ⊗ in4 ⊗ in3 ⊗ tt ⊗ in1 ⊗ tt ⊗ in2 ⊗ in1 ⊗ tt ⊗ in3 ⊗ in4 ⊗ in1 ⊗ in3 ⊗ in3 ⊗ in5 ⊗ in5 ⊗ in4 ⊗ in5 ⊗ in3 ⊗ in6 ⊗ in6 ⊗ in4 ⊗ in4 ⊗ in4 ⊗ in4 ⊗ in4 ⊗ tt ⊗ tt ⊗ in2 ⊗ tt ⊗ in1 ⊗ tt ⊗ in3 ⊗ tt ⊗ in4 ⊗ in4 ⊗ in4 ⊗ in3 ⊗ in4 ⊗ in3 ⊗ in1 ⊗ in1 ⊗ in2 ⊗ in2 ⊗ in2 ⊗ in2 ⊗ tt ⊗ tt ⊗ tt ⊗ tt
 

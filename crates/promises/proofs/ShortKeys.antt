@@ -11,13 +11,12 @@ use Rattle.refusals.specs.Refusal.{first}
 use Rattle.refusals.specs.Call.{Call, Answered, All}
 use Rattle.refusals.proofs.Calls.{done}
 use Rattle.kasumi.specs.Kasumi.{kasumiOrder}
-use Rattle.aes.specs.Aes.{keyOrder as Aes·keyOrder, aesOrder}
+use Rattle.aes.specs.Aes.{expandKeyOrder, aesOrder}
 use Rattle.kgcore.specs.Kgcore.{kgcoreOrder}
 use Rattle.keystreams.specs.Key.{isKey, prepared, keyOrder, prepareKeyCall}
 use Rattle.keystreams.specs.A5.{block1, block2, a5Order}
 use Rattle.keystreams.specs.Gea4.{gea4Output, gea4Order}
 use Rattle.keystreams.proofs.Keys.{short-is-key, whole-is-key, length-doubled, length-prepared, prepared-again, prepared-doubled, prepare-done}
-use Rattle.pair.specs.Message.{isKey as Pair·isKey}
 use Rattle.pair.specs.F8.{f8Order}
 use Rattle.pair.specs.F9.{f9Order}
 use Rattle.milenage.specs.Calls.{isString, opcOrder, codeOrder, resultOrder}
@@ -88,7 +87,7 @@ all-refused number key (call ∷ rest) named = (refused number key call (named .
 
 -- the first row of each order is the key's
 each-wants : (key : List ℕ) → (length key ≡ 16 → ⊥) → All (Names 1 key) wholeKeyCalls
-unfolding first kasumiOrder Aes·keyOrder aesOrder kgcoreOrder f8Order f9Order Pair·isKey opcOrder codeOrder resultOrder isString
+unfolding first kasumiOrder expandKeyOrder aesOrder kgcoreOrder f8Order f9Order opcOrder codeOrder resultOrder isString
 each-wants key other =
     let short = ne-eqb (length key) 16 other in
     (rw short)

@@ -16,7 +16,6 @@ use Rattle.octets.specs.Bits.{bitOf, size}
 use Rattle.octets.proofs.Stored.{bitOf-lt, length-stored, front-stored}
 use Rattle.pair.specs.declared.F8Inputs.{F8Inputs}
 use Rattle.pair.specs.declared.F9Inputs.{F9Inputs}
-use Rattle.pair.specs.Message.{isKey}
 use Rattle.pair.specs.F8.{f8Bit, f8Output, f8Order, f8Call}
 use Rattle.pair.specs.F9.{padded, zerosAfter, f9Code, f9Order, f9Call, checkCall}
 use Rattle.pair.proofs.Padded.{one-bit, zero-bit, length-padded}
@@ -140,7 +139,7 @@ integrity = record {
 }
 
 pub third-generation : ThirdGeneration
-unfolding first f8Order f9Order isKey
+unfolding first f8Order f9Order
 third-generation = record {
   f8 = confidentiality;
   f9 = integrity;

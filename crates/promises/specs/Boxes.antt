@@ -4,7 +4,7 @@ use mathlib.Core.Path.{_≡_}
 use Rattle.octets.specs.Bits.{listed}
 use Rattle.sboxes.specs.Tables.{s7, s7Table, s9, s9Table}
 use Rattle.sboxes.specs.Gates.{s7Gates, s9Gates}
-use Rattle.sboxes.specs.Permutation.{Permutes}
+use Rattle.octets.specs.Permutation.{Permutes}
 use Rattle.aes.specs.Field.{_•_}
 use Rattle.aes.specs.SBox.{inverse, sbox}
 

@@ -6,8 +6,8 @@ use mathlib.Core.Bool.{Bool, true, false, cond}
 use mathlib.Core.List.{List, [], _∷_}
 use borrow.Author.Tests.{ne-eqb}
 use lib.Dec.{T, eqb, leb, leb→le}
-use Rattle.refusals.specs.Refusal.{Row, first, ThenAndOnlyThen, lastRefusal}
-use Rattle.refusals.specs.Call.{Call, PublicCall, call, function, given, Always, All, makes, Outcome, outcome, Answered, Answers, Determined, zeros, handedOut}
+use Rattle.refusals.specs.Refusal.{Row, first, lastRefusal}
+use Rattle.refusals.specs.Call.{Call, PublicCall, call, function, given, Always, All, makes, outcome, Answered, Answers, Determined, zeros, handedOut}
 use Rattle.refusals.proofs.Laws.{then-and-only-then}
 use Rattle.refusals.proofs.Orders.{distinct, inTable, isOrder}
 use Rattle.refusals.proofs.Tests.{and-left, and-right, by-test}

@@ -21,5 +21,6 @@ abbrev pub inTable : List Row → Bool
 inTable [] = true
 inTable (row ∷ rest) = leb (row .number) lastRefusal && inTable rest
 
+-- an order: both
 abbrev pub isOrder : List Row → Bool
 isOrder rows = distinct rows && inTable rows

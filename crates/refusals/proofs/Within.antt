@@ -1,10 +1,10 @@
--- What a call says that it put into a lent output lies within that output.
+-- What a call says that it put into a lent output lies within that output, and a result as long as the output is all of it.
 -- Assumes nothing.
 use Prim.Native.Nat.{ℕ, _≤_}
 use native.Mathlib.Omega.{arith}
-use mathlib.Core.Path.{_≡_, sym, ap}
-use mathlib.Core.List.{List}
-use lib.ListN.{length, take, drop, length-append}
+use mathlib.Core.Path.{_≡_, sym, ap, _∙_}
+use mathlib.Core.List.{List, _++_, append-nil}
+use lib.ListN.{length, take, drop, length-append, drop-of-length-le}
 use lib.Seq.{length-take-le}
 use Rattle.refusals.specs.Call.{front}
 
@@ -23,3 +23,9 @@ front-within result before {count} {after} count-is output-is =
 
 pub none-within : {count : ℕ} (after : List ℕ) → count ≡ 0 → Within count after
 none-within {count} after none = within count after (omega (arith, none))
+
+-- a result as long as the output is all of it
+pub front-whole : (result before : List ℕ) → length result ≡ length before → front result before ≡ result
+unfolding front
+front-whole result before same =
+    ap (λ (l : List ℕ). result ++ l) (drop-of-length-le before {i = length result} (omega arith)) ∙ append-nil result

@@ -2,7 +2,7 @@
 -- `Answered call refusal numbers lent`, and so it says everything that comes back. Assumes nothing.
 use Prim.Native.Nat.{ℕ, _≤_}
 use mathlib.Core.Path.{_≡_}
-use mathlib.Core.Bool.{Bool, true, false, cond}
+use mathlib.Core.Bool.{Bool, false, cond}
 use mathlib.Core.List.{List, [], _∷_, _++_, map}
 use lib.Dec.{eqb}
 use lib.ListN.{length, drop}
@@ -14,7 +14,8 @@ front result output = result ++ drop (length result) output
 
 -- one call with all that it is given. Where no cause of `order` holds, it hands out `numbers` and leaves what it is lent as `after`. Where it is
 -- refused, every number is 0, but that the first is a candidate, given all the same with some refusals, `candidateWith`; and what it is lent stays as
--- `before`: the state and the octets of an output as they were given, and for a call that makes a state the state that no call takes
+-- `before`: the state and the octets of an output as they were given, and for a call that makes a state one that 12 refuses, or of keys zeros, which are
+-- taken, so that a caller looks at the refusal
 pub record Call (Lent : Type 0) : Type 0 where
   pub order : List Row
   pub numbers : List ℕ
@@ -49,7 +50,8 @@ putsTwo order results outputs = record {
   after = record { one = front (results .one) (outputs .one); two = front (results .two) (outputs .two) };
 }
 
--- a call that makes a state, or hands back, when refused, the state that no call takes
+-- a call that makes a state, and hands back, when refused, a state that 12 refuses, or of keys zeros, which are taken, so that a caller looks at the
+-- refusal
 abbrev pub makes : {State : Type 0} → List Row → State → State → Call State
 makes order refused made = record { order = order; numbers = []; candidateWith = noCandidate; before = refused; after = made }
 
@@ -68,6 +70,7 @@ pub record Outcome (Lent : Type 0) : Type 0 where
   pub numbers : List ℕ
   pub lent : Lent
 
+-- what a call comes to: the first cause that holds, or 0, and what is handed out and lent back with it
 unfoldable pub outcome : {Lent : Type 0} → Call Lent → Outcome Lent
 outcome call =
     let refusal = first (call .order) in

@@ -1,6 +1,5 @@
--- The laws of this crate: what a whole table's test says of each entry, the S-boxes, S9 by its products and by doubling, and an entry of the table for FI.
+-- The laws of this crate: the S-boxes, S9 by its products and by doubling, and an entry of the table for FI.
 pub mod Doubling
-pub mod Entries
 pub mod Looked
 pub mod Products
 pub mod SBoxes

@@ -8,8 +8,8 @@ use lib.Dec.{T, eqb, eqb→eq}
 use lib.Bits.{bitAnd, bitXor}
 use lib.ListN.{getD}
 use Rattle.refusals.proofs.Tests.{all, at-place}
+use Rattle.octets.specs.LowBits.{lowBit}
 use Rattle.sboxes.specs.Tables.{s9, s9Table}
-use Rattle.sboxes.specs.Gates.{lowBit}
 
 -- bit k of x, at all places of a word; for bit 0 nothing is divided off
 unfoldable pub spread : ℕ → ℕ → ℕ

@@ -8,10 +8,10 @@ use mathlib.Core.List.{List, [], _∷_}
 use lib.Dec.{eqb, eqb→eq, lit<}
 use lib.ListN.{length, getD, List·getD-eq-default}
 use Rattle.refusals.proofs.Tests.{at-place}
+use Rattle.octets.specs.Permutation.{Permutes}
+use Rattle.octets.proofs.Permutation.{permutes}
 use Rattle.sboxes.specs.Tables.{s7, s7Table, s9, s9Table}
 use Rattle.sboxes.specs.Gates.{gates7, s7Gates, gates9, s9Gates}
-use Rattle.sboxes.specs.Permutation.{Permutes}
-use Rattle.sboxes.proofs.Entries.{permutes}
 
 -- the place of each number in S7
 unfoldable pub s7Inverse : List ℕ

@@ -1,16 +1,8 @@
 -- The gate equations of S7 and S9 in the form of 3GPP TS 35.202: x0 and y0 are the lowest bits, the exclusive or of
 -- the terms is their sum modulo 2, and the and of bits is their product. Assumes nothing.
-use Prim.Native.Nat.{ℕ, _+_, _*_, _/_, _%_, _^_}
+use Prim.Native.Nat.{ℕ, _+_, _*_, _%_}
 use mathlib.Core.List.{List, [], _∷_}
-
--- bit i of a number, bit 0 the lowest, as the equations count
-abbrev pub lowBit : ℕ → ℕ → ℕ
-lowBit x i = x / 2 ^ i % 2
-
--- the number of the given bits, the lowest first
-abbrev pub weighed : List ℕ → ℕ
-weighed [] = 0
-weighed (y ∷ ys) = y + 2 * weighed ys
+use Rattle.octets.specs.LowBits.{lowBit, weighed}
 
 -- the gate equations of S7: the output bits y0 to y6 of the input bits x0 to x6
 unfoldable pub gates7 : ℕ → ℕ → ℕ → ℕ → ℕ → ℕ → ℕ → List ℕ

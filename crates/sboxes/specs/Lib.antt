@@ -1,4 +1,3 @@
 pub mod FiTable
 pub mod Gates
-pub mod Permutation
 pub mod Tables

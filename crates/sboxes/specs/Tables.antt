@@ -3,6 +3,7 @@ use Prim.Native.Nat.{ℕ}
 use mathlib.Core.List.{List, [], _∷_}
 use lib.ListN.{getD}
 
+-- the 128 entries of S7
 unfoldable pub s7Table : List ℕ
 s7Table =
     54 ∷ 50 ∷ 62 ∷ 56 ∷ 22 ∷ 34 ∷ 94 ∷ 96 ∷ 38 ∷ 6 ∷ 63 ∷ 93 ∷ 2 ∷ 18 ∷ 123 ∷ 33 ∷
@@ -14,6 +15,7 @@ s7Table =
     102 ∷ 31 ∷ 26 ∷ 45 ∷ 75 ∷ 4 ∷ 85 ∷ 92 ∷ 37 ∷ 74 ∷ 80 ∷ 49 ∷ 68 ∷ 29 ∷ 115 ∷ 44 ∷
     64 ∷ 107 ∷ 108 ∷ 24 ∷ 110 ∷ 83 ∷ 36 ∷ 78 ∷ 42 ∷ 19 ∷ 15 ∷ 41 ∷ 88 ∷ 119 ∷ 59 ∷ 3 ∷ []
 
+-- the 512 entries of S9
 unfoldable pub s9Table : List ℕ
 s9Table =
     167 ∷ 239 ∷ 161 ∷ 379 ∷ 391 ∷ 334 ∷ 9 ∷ 338 ∷ 38 ∷ 226 ∷ 48 ∷ 358 ∷ 452 ∷ 385 ∷ 90 ∷ 397 ∷

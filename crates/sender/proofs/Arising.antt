@@ -1,19 +1,17 @@
 -- Refusal 12 is given for exactly the senders that cannot arise: each sender that passes arises, by opening it and sealing its numbers from 0 on.
 -- Assumes nothing.
-use Prim.Native.Nat.{ℕ, zero, suc, _+_, _≤_, _<_}
+use Prim.Native.Nat.{ℕ, zero, suc, _≤_}
 use native.Mathlib.Omega.{arith}
 use native.Mathlib.Numerals.{add-one}
-use mathlib.Core.Path.{_≡_, refl, sym, ap, subst, _∙_}
+use mathlib.Core.Path.{_≡_, subst}
 use mathlib.Core.Logic.{_↔_, inl, inr, ⊎-elim}
 use mathlib.Core.Bool.{true, false, and-false}
-use mathlib.Core.List.{List, [], _∷_}
+use mathlib.Core.List.{[], _∷_}
 use borrow.Author.Tests.{le-leb, lt-leb, leb-false}
 use lib.ListN.{length, replicate}
 use Rattle.refusals.specs.Refusal.{first}
-use Rattle.refusals.specs.Call.{Answered}
 use Rattle.refusals.proofs.Calls.{done}
 use Rattle.refusals.proofs.Tests.{by-test}
-use Rattle.keystreams.specs.Key.{prepared}
 use Rattle.keystreams.proofs.Keys.{whole-is-key, prepared-whole}
 use Rattle.numbering.specs.Numbering.{end}
 use Rattle.link.specs.declared.Link.{Link}

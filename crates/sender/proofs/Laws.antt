@@ -10,10 +10,10 @@ use borrow.Author.Tests.{le-leb, ltb-false, eqb-false, not-true, not-false}
 use lib.ListN.{length}
 use Rattle.refusals.specs.Refusal.{rowAt}
 use Rattle.refusals.specs.Call.{Answered, front}
-use Rattle.refusals.proofs.Calls.{answered-done, determined}
+use Rattle.refusals.proofs.Calls.{determined}
 use Rattle.numbering.specs.Numbering.{end}
-use Rattle.link.specs.Link.{linkCanArise, linkOf, isPayload, frameAt}
-use Rattle.link.proofs.Links.{opened-link, opened-length}
+use Rattle.link.specs.Link.{linkOf, isPayload, frameAt}
+use Rattle.link.proofs.Links.{opened-link}
 use Rattle.sender.specs.declared.Sender.{Sender}
 use Rattle.sender.specs.Sender.{newSender, afterFrame, openSenderCall, senderCanArise, sealOrder, sealCall}
 use Rattle.sender.proofs.Sealing.{sender-says}

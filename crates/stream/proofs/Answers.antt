@@ -2,21 +2,21 @@
 -- Assumes nothing.
 use Prim.Native.Nat.{ℕ, _≤_, _<_}
 use native.Mathlib.Omega.{arith}
-use mathlib.Core.Path.{_≡_, refl, sym, ap, subst, _∙_}
+use mathlib.Core.Path.{_≡_, sym, ap, subst, _∙_}
 use mathlib.Core.Bool.{true, false}
 use mathlib.Core.List.{List, [], _∷_}
 use borrow.Author.Tests.{eq-eqb, ne-eqb}
 use lib.Dec.{eqb, lit≤}
-use lib.ListN.{length, take, length-append, length-take}
+use lib.ListN.{length, take, length-take}
 use Rattle.refusals.proofs.Tests.{by-test}
-use Rattle.lines.specs.Text.{hexText, decimalText}
+use Rattle.lines.specs.Text.{ended, hexText, decimalText}
 use Rattle.lines.specs.Hearing.{tooLong}
-use Rattle.lines.proofs.Hearing.{LongAlike}
+use Rattle.lines.proofs.Hearing.{LongAlike, line-alike}
 use Rattle.lines.proofs.InDecimal.{length-decimalText}
-use Rattle.lines.proofs.Text.{length-either, length-hexText}
+use Rattle.lines.proofs.Text.{length-ended, length-either, length-hexText}
 use Rattle.stream.specs.declared.form.Request.{Request}
 use Rattle.stream.specs.Form.{isRequest, asked, nothingAsked, requestOf}
-use Rattle.stream.specs.Answer.{outcomeOf, requestText, answerText, ended, answer, largestAnswer}
+use Rattle.stream.specs.Answer.{outcomeOf, requestText, answerText, largestAnswer}
 use Rattle.stream.specs.Stream.{streamRules}
 use Rattle.stream.proofs.Parts.{parts-of, not-accepted}
 
@@ -87,13 +87,9 @@ length-answerText line =
 
 -- a line that is too long is answered like any other that is
 pub stream-alike : LongAlike streamRules
-unfolding answer tooLong
-stream-alike = record {
-  answer-alike = λ _ line long. ap ended (too-long line (omega arith) ∙ sym (too-long tooLong (lit≤ tt)));
-  after-alike = λ _ _ _. refl;
-}
+unfolding tooLong
+stream-alike = line-alike answerText largestAnswer (λ line long. too-long line (omega arith) ∙ sym (too-long tooLong (lit≤ tt)))
 
 -- every answer has room in an output that is not refused
-pub stream-fits : (line : List ℕ) → length (answer line) ≤ largestAnswer
-unfolding answer ended
-stream-fits line = simp length-append (omega (arith, length-answerText line))
+pub stream-fits : (line : List ℕ) → length (ended (answerText line)) ≤ largestAnswer
+stream-fits line = omega (arith, length-ended (answerText line), length-answerText line)

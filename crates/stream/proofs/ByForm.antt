@@ -10,20 +10,20 @@ use lib.ListN.{length, take, replicate, length-replicate}
 use Rattle.refusals.specs.Refusal.{first}
 use Rattle.refusals.specs.Call.{front, outcome}
 use Rattle.lines.specs.Digits.{valueOf}
-use Rattle.lines.specs.Text.{glyphOf, hexText, decimalDigits, decimalText, hexOctets}
+use Rattle.lines.specs.Text.{ended, glyphOf, hexText, decimalDigits, decimalText, hexOctets}
 use Rattle.lines.proofs.Text.{take-front}
 use Rattle.keystreams.specs.Gea4.{gea4Output, gea4Order}
 use Rattle.keystreams.proofs.Keys.{whole-is-key}
 use Rattle.keystreams.proofs.Laws.{length-gea4, gea4-done}
 use Rattle.stream.specs.Form.{RequestLine, mText, directionText, isRequest, asked}
-use Rattle.stream.specs.Answer.{outcomeOf, requestText, answerText, ended, answer}
+use Rattle.stream.specs.Answer.{outcomeOf, requestText, answerText}
 use Rattle.stream.proofs.Accepted.{form-accepted, form-parts}
 use Rattle.stream.proofs.Answers.{text-refused, text-done}
 use Rattle.stream.proofs.Parts.{parts-of, length-key}
 
 -- a line not of the form: `?`
-pub bad-line : (line : List ℕ) → isRequest line ≡ false → answer line ≡ 63 ∷ 10 ∷ []
-unfolding answer answerText ended
+pub bad-line : (line : List ℕ) → isRequest line ≡ false → ended (answerText line) ≡ 63 ∷ 10 ∷ []
+unfolding answerText ended
 bad-line line refused = rw refused
 
 module _ {line m key input : List ℕ} {direction : ℕ} (form : RequestLine line m key input direction) where
@@ -35,8 +35,8 @@ module _ {line m key input : List ℕ} {direction : ℕ} (form : RequestLine lin
   unfolding asked
   way = omega (arith, parts-of line (form-accepted form) .direction-to)
 
-  answer-form : answer line ≡ ended (requestText (asked line))
-  unfolding answer answerText
+  answer-form : ended (answerText line) ≡ ended (requestText (asked line))
+  unfolding answerText
   answer-form = rw (form-accepted form)
 
   m-is : asked line .m ≡ valueOf 10 m
@@ -48,7 +48,7 @@ module _ {line m key input : List ℕ} {direction : ℕ} (form : RequestLine lin
   unfolding outcomeOf outcome first gea4Order
   refused-three none = rw (whole-is-key (asked line .key) sixteen, le-ltb 1 (asked line .direction) way, m-is ∙ none)
 
-  pub zero-octets : valueOf 10 m ≡ 0 → answer line ≡ 51 ∷ 10 ∷ []
+  pub zero-octets : valueOf 10 m ≡ 0 → ended (answerText line) ≡ 51 ∷ 10 ∷ []
   unfolding ended decimalText decimalDigits glyphOf
   zero-octets none =
       let three : outcomeOf (asked line) .refusal ≡ 3 = refused-three none in
@@ -81,5 +81,5 @@ module _ {line m key input : List ℕ} {direction : ℕ} (form : RequestLine lin
       ∙ take-front octets-of (replicate 1520 0)
 
   pub some-octets : 0 < valueOf 10 m
-      → answer line ≡ ended (hexText (gea4Output (hexOctets key) (valueOf 16 input) (direction - 48) (valueOf 10 m)))
+      → ended (answerText line) ≡ ended (hexText (gea4Output (hexOctets key) (valueOf 16 input) (direction - 48) (valueOf 10 m)))
   some-octets some = answer-form ∙ ap ended (text-done (asked line) (not-refused some .0) ∙ ap hexText (first-octets some ∙ octets-are))

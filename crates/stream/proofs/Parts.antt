@@ -1,19 +1,21 @@
 -- The form of a line: the test `isRequest` accepts exactly the lines that are the four parts with a space between.
 -- Assumes nothing.
-use Prim.Native.Nat.{ℕ, zero, suc, _+_, _-_, _^_, _≤_, _<_}
+use Prim.Native.Nat.{ℕ, _+_, _-_, _^_, _≤_, _<_}
 use native.Mathlib.Omega.{arith}
-use mathlib.Core.Path.{_≡_, refl, ap, subst, _∙_}
-use mathlib.Core.Bool.{Bool, true, false, and-eq-true-iff}
-use mathlib.Core.List.{List, [], _∷_}
+use mathlib.Core.Path.{_≡_, ap, subst, _∙_}
+use mathlib.Core.Bool.{true, false}
+use mathlib.Core.List.{List}
 use borrow.Author.Tests.{eq-eqb, eqb-true, le-leb, leb-true}
 use lib.ListN.{length, getD, take, drop, length-drop}
 use lib.Seq.{length-take-le}
 use Rattle.refusals.proofs.Tests.{by-test}
 use Rattle.lines.specs.Digits.{within, allDigits, valueOf, isNumber}
+use Rattle.lines.specs.Form.{every}
 use Rattle.lines.specs.Text.{hexOctets, isHex}
 use Rattle.lines.proofs.Digits.{within-both, within-from, within-to, number-below, number-of-digits, number-size, number-digits}
+use Rattle.lines.proofs.Form.{every-at}
 use Rattle.lines.proofs.Text.{length-hexOctets, hex-of-digits}
-use Rattle.stream.specs.Form.{mSize, mText, keyText, inputText, directionText, every, requestTests, isRequest, nothingAsked, requestOf, asked}
+use Rattle.stream.specs.Form.{mSize, mText, keyText, inputText, directionText, requestTests, isRequest, nothingAsked, requestOf, asked}
 
 -- what the test of the form says, part by part
 pub record Parts (line : List ℕ) : Type 0 where
@@ -32,13 +34,6 @@ pub record Parts (line : List ℕ) : Type 0 where
 pub length-mText : (line : List ℕ) → length (mText line) ≡ length line - 44
 unfolding mText mSize
 length-mText line = length-take-le (length line - 44) line (omega arith)
-
--- where every test of a list holds, each does
-every-at : (tests : List Bool) → every tests ≡ true → (k : ℕ) → getD tests k true ≡ true
-unfolding every
-every-at [] all k = refl
-every-at (test ∷ rest) all zero = and-eq-true-iff test _ .0 all .0
-every-at (test ∷ rest) all (suc k) = every-at rest (and-eq-true-iff test _ .0 all .1) k
 
 module _ (line : List ℕ) where
   -- the tests say that the parts are right

@@ -1,7 +1,7 @@
 -- What `stream` answers to a line. Assumes nothing.
 use Prim.Native.Nat.{ℕ}
 use mathlib.Core.Bool.{cond}
-use mathlib.Core.List.{List, [], _∷_, _++_}
+use mathlib.Core.List.{List, [], _∷_}
 use lib.Dec.{eqb}
 use lib.ListN.{take, replicate}
 use Rattle.refusals.specs.Call.{Outcome, outcome}
@@ -23,14 +23,6 @@ requestText request =
 -- the text that answers a line: `?` where the line is not of the form
 unfoldable pub answerText : List ℕ → List ℕ
 answerText line = cond (isRequest line) (requestText (asked line)) (63 ∷ [])
-
--- a text as a line of the output: a line feed ends it
-unfoldable pub ended : List ℕ → List ℕ
-ended text = text ++ 10 ∷ []
-
--- the answer to a line, a line itself
-unfoldable pub answer : List ℕ → List ℕ
-answer line = ended (answerText line)
 
 -- the largest answer: 1,520 pairs of digits and the line feed. An output with less room is refused
 abbrev pub largestAnswer : ℕ

@@ -2,11 +2,12 @@
 -- digits of either case; INPUT, 8 hex digits; the direction, `0` or `1`; one space between, and nothing else. Assumes nothing.
 use Prim.Native.Nat.{ℕ, _+_, _-_, _≤_}
 use mathlib.Core.Path.{_≡_}
-use mathlib.Core.Bool.{Bool, true, false, cond, _&&_}
+use mathlib.Core.Bool.{Bool, true, false, cond}
 use mathlib.Core.List.{List, [], _∷_, _++_}
 use lib.Dec.{eqb, leb}
 use lib.ListN.{length, getD, take, drop, replicate}
 use Rattle.lines.specs.Digits.{within, allDigits, valueOf, isNumber}
+use Rattle.lines.specs.Form.{every}
 use Rattle.lines.specs.Text.{hexOctets}
 use Rattle.stream.specs.declared.form.Request.{Request}
 
@@ -41,11 +42,6 @@ inputText line = take 8 (drop (mSize line + 34) line)
 unfoldable pub directionText : List ℕ → ℕ
 directionText line = getD line (mSize line + 43) 0
 
--- every test of a list holds
-unfoldable pub every : List Bool → Bool
-every [] = true
-every (test ∷ rest) = test && every rest
-
 -- the tests of the form: the three spaces, and each part
 unfoldable pub requestTests : List ℕ → List Bool
 requestTests line =
@@ -58,7 +54,7 @@ requestTests line =
     allDigits 16 (inputText line) ∷
     within 48 49 (directionText line) ∷ []
 
--- whether a line is of the form
+-- whether a line is of the form: it holds exactly of the lines of RequestLine (stream/proofs/Accepted.antt)
 unfoldable pub isRequest : List ℕ → Bool
 isRequest line = every (requestTests line)
 

@@ -2,10 +2,10 @@
 ghost use mathlib.Core.Path.{_≡_};
 ghost use Prim.Native.Nat.{_≤_};
 ghost use lib.ListN.{length};
-ghost use Rattle.lines.specs.Text.{AtFront};
-ghost use Rattle.lines.specs.Hearing.{silence, heardLine, HearCall, FinishCall};
-ghost use Rattle.stream.specs.Answer.{answerText, answer as Answer·answer, largestAnswer};
-ghost use Rattle.stream.specs.Stream.{streamRules, standing};
+ghost use Rattle.lines.specs.Text.{AtFront, ended};
+ghost use Rattle.lines.specs.Hearing.{silence, heardLine, standing, HearCall, FinishCall};
+ghost use Rattle.stream.specs.Answer.{answerText, largestAnswer};
+ghost use Rattle.stream.specs.Stream.{streamRules};
 use crate::form;
 use lines::Heard;
 use lines::Put;
@@ -55,7 +55,7 @@ fn put_text(line: &[u8], output: &mut [u8]) -> usize
 // Puts the answer to a line.
 fn put_answer(line: &[u8], output: &mut [u8]) -> usize
     requires { ⌜ largestAnswer ≤ length (now output) ⌝ }
-    ensures { λ r. ⌜ AtFront (Answer·answer (now (line .entry))) (now (output .entry)) r (now (output .exit)) ⌝ }
+    ensures { λ r. ⌜ AtFront (ended (answerText (now (line .entry)))) (now (output .entry)) r (now (output .exit)) ⌝ }
 {
     let size = put_text(line, output);
     output[size] = LINE_FEED;
@@ -65,7 +65,7 @@ fn put_answer(line: &[u8], output: &mut [u8]) -> usize
 // Puts the answer to the line heard.
 fn put_heard(heard: Heard, output: &mut [u8]) -> usize
     requires { ⌜ largestAnswer ≤ length (now output) ⌝ }
-    ensures { λ r. ⌜ AtFront (Answer·answer (heardLine heard)) (now (output .entry)) r (now (output .exit)) ⌝ }
+    ensures { λ r. ⌜ AtFront (ended (answerText (heardLine heard))) (now (output .entry)) r (now (output .exit)) ⌝ }
 {
     let octets = heard.octets;
     let count = heard.count;

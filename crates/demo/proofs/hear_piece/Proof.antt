@@ -19,11 +19,11 @@ use Rattle.demo.proofs.hear_piece.Statement.{statement}
 use Rattle.demo.proofs.hear_piece.Tie as tie
 
 abbrev Inv-loop : tie.InvT-loop
-Inv-loop piece output₀ so-far₀ i₀ output so-far i =
-    (i ≤ length piece) × (heardAfter demoRules (standing so-far₀) piece ≡ heardAfter demoRules (standing so-far) (drop i piece)) × (length output ≡ length output₀)
+Inv-loop play₀ piece output₀ i₀ play output i =
+    (i ≤ length piece) × (heardAfter demoRules (standing play₀) piece ≡ heardAfter demoRules (standing play) (drop i piece)) × (length output ≡ length output₀)
 
 abbrev μ-loop : tie.MeasureT-loop
-μ-loop piece output₀ so-far₀ i₀ output so-far i = length piece - i
+μ-loop play₀ piece output₀ i₀ play output i = length piece - i
 
 -- what is written is within the output
 within : (c : tie.After-hear Inv-loop μ-loop) → c .hear .result .written ≤ length (c .hear .last .1 .1 .0)
@@ -49,10 +49,10 @@ slice-aggregate-write-all : tie.Need-slice-aggregate-write-all Inv-loop μ-loop
 slice-aggregate-write-all c = sym (length-take-le (c .before .before .before .hear .result .written) (c .before .before .before .hear .last .1 .1 .0) (within (c .before .before .before)))
 
 write-all-requires : tie.Need-write-all-requires Inv-loop μ-loop
-write-all-requires c κs = search needs
+write-all-requires c κs = tt
 
 new-play-requires : tie.Need-new-play-requires Inv-loop μ-loop
-new-play-requires c κs = search needs
+new-play-requires c κs = tt
 
 same-length : tie.Need-same-length Inv-loop μ-loop
 same-length c = length-kept (c .before .before .before .before .before .before)
@@ -75,7 +75,7 @@ loop-again c =
     let i : ℕ = at-loop .loop .i in (
       omega arith,
       at-loop .loop .inv .1
-          ∙ heard-next demoRules (standing (at-loop .loop .so-far)) piece i (omega arith)
+          ∙ heard-next demoRules (standing (at-loop .loop .play)) piece i (omega arith)
           ∙ ap (λ (s : Standing Stage). heardAfter demoRules s (drop (i + 1) piece)) (sym (then-hearing demoRules (omega (arith, at-loop .loop .inv .2, at-loop .before .before .before .pre)) (at-hear .hear .ensures))),
       length-kept at-hear,
     )
@@ -87,7 +87,7 @@ returns-2 : tie.Need-returns-2 Inv-loop μ-loop
 returns-2 c _ =
     let at-loop = c .before in
     let given = at-loop .before .before .before .args in
-    sym (at-loop .loop .inv .1 ∙ heard-all demoRules (standing (at-loop .loop .so-far)) (now (given .piece)) (at-loop .loop .i) (omega arith))
+    sym (at-loop .loop .inv .1 ∙ heard-all demoRules (standing (at-loop .loop .play)) (now (given .piece)) (at-loop .loop .i) (omega arith))
 
 pub hear-piece-spec : {M : Type 1} → statement M
 hear-piece-spec =

@@ -1,6 +1,5 @@
 -- `demo::move_all` is safe and ends: the measure is the number of turns that are left. The loop's invariant: the output keeps its length.
 -- Assumes nothing.
-use borrow.Author.Needs.{needs}
 use denote.Ref.{now}
 use lib.ListN.{length}
 use native.Mathlib.Omega.{arith}
@@ -18,7 +17,7 @@ length-kept : (c : tie.After-move-piece Inv-loop μ-loop) → length (c .move-pi
 length-kept c = c .move-piece .kept .1 .0 ∙ c .before .before .before .loop .inv
 
 new-play-requires : tie.Need-new-play-requires Inv-loop μ-loop
-new-play-requires c κs = search needs
+new-play-requires c κs = tt
 
 loop-holds : tie.Need-loop-holds Inv-loop μ-loop
 loop-holds c = refl

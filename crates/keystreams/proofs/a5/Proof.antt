@@ -1,7 +1,7 @@
 -- `keystreams::a5` meets its contract: each refusal is given where its cause is the first that holds, and else KGCORE fills the stream and
 -- each half of its bits is cut into its block.
 -- Assumes nothing.
-use Prim.Native.Nat.{ℕ, _+_, _/_}
+use Prim.Native.Nat.{_/_}
 use native.Mathlib.Omega.{arith}
 use mathlib.Core.Path.{_≡_, refl, sym, _∙_}
 use mathlib.Core.Bool.{true, false, cond, _||_}

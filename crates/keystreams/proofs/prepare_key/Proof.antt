@@ -5,14 +5,13 @@ use borrow.Author.Needs.{needs}
 use native.Mathlib.Omega.{arith}
 use mathlib.Core.Path.{_≡_, refl, sym, ap, _∙_}
 use mathlib.Core.Bool.{true}
-use mathlib.Core.List.{List, _++_, append-nil}
+use mathlib.Core.List.{List}
 use Prim.Native.Nat.{ℕ, _-_, _≤_}
 use borrow.Author.Tests.{not-true, not-false}
 use denote.Ref.{now}
-use lib.ListN.{length, getD, drop, set, replicate}
+use lib.ListN.{length, getD}
 use Rattle.refusals.specs.Refusal.{first}
-use Rattle.octets.specs.Bits.{listed}
-use Rattle.octets.proofs.Listed.{listed-store}
+use Rattle.octets.proofs.Filling.{Filled, filled-none, filled-more, filled-all}
 use Rattle.keystreams.specs.Key.{isKey, sourceOf, keyOrder}
 use Rattle.keystreams.proofs.Keys.{key-most, source-within, prepared-listed}
 use Rattle.keystreams.proofs.prepare_key.Statement.{statement}
@@ -23,13 +22,8 @@ abbrev octet-at : List ℕ → ℕ → ℕ
 octet-at key i = getD key (sourceOf (length key) i) 0
 
 -- the first i octets stand; the key is no longer than the 16
-record Filled (key before octets : List ℕ) (i : ℕ) : Type 0 where
-  within : i ≤ 16
-  no-longer : length key ≤ 16
-  octets-are : octets ≡ listed (octet-at key) i ++ drop i before
-
 abbrev Inv-loop : tie.InvT-loop
-Inv-loop key octets₀ i₀ octets i = Filled key octets₀ octets i
+Inv-loop key octets₀ i₀ octets i = (length key ≤ 16) × Filled (octet-at key) octets i
 
 abbrev μ-loop : tie.MeasureT-loop
 μ-loop key octets₀ i₀ octets i = 16 - i
@@ -46,8 +40,7 @@ unfolding first keyOrder
 returns c = record { refusal-is = rw (sym (c .before .is-key .ensures) ∙ not-true _ (c .if1 .taken)); numbers-are = refl; lent-is = refl }
 
 loop-holds : tie.Need-loop-holds Inv-loop μ-loop
-unfolding listed
-loop-holds c = record { within = search needs; no-longer = key-most _ (key-right c); octets-are = refl }
+loop-holds c = (key-most _ (key-right c), filled-none _)
 
 source-requires : tie.Need-source-requires Inv-loop μ-loop
 source-requires c κs = search needs
@@ -71,15 +64,7 @@ loop-again : tie.Need-loop-again Inv-loop μ-loop
 loop-again c =
     let at-loop = c .before .before .before in
     let key : List ℕ = now (at-loop .before .before .before .before .args .key) in
-    let i : ℕ = at-loop .loop .i in
-    record {
-      within = omega arith;
-      no-longer = at-loop .loop .inv .no-longer;
-      octets-are =
-          ap (λ (k : ℕ). set (at-loop .loop .octets) i (getD key k 0)) (c .before .source .ensures)
-          ∙ ap (λ (l : List ℕ). set l i (octet-at key i)) (at-loop .loop .inv .octets-are)
-          ∙ listed-store (octet-at key) (replicate 16 0) i (omega arith);
-    }
+    (at-loop .loop .inv .0, filled-more _ (at-loop .loop .inv .1) (omega arith) (ap (λ (k : ℕ). getD key k 0) (c .before .source .ensures)))
 
 returns-2 : tie.Need-returns-2 Inv-loop μ-loop
 unfolding first keyOrder
@@ -90,11 +75,7 @@ returns-2 c =
     record {
       refusal-is = rw right;
       numbers-are = refl;
-      lent-is =
-          at-loop .loop .inv .octets-are
-          ∙ ap (λ (i : ℕ). listed (octet-at key) i ++ drop i (replicate 16 0)) {y = 16} (omega arith)
-          ∙ append-nil (listed (octet-at key) 16)
-          ∙ prepared-listed key right;
+      lent-is = filled-all _ (at-loop .loop .inv .1) (omega arith) ∙ prepared-listed key right;
     }
 
 pub prepare-key-spec : {M : Type 1} → statement M

@@ -11,6 +11,8 @@ use lib.Dec.{eqb, ltb}
 use lib.ListN.{length}
 use Rattle.refusals.specs.Refusal.{first}
 use Rattle.octets.specs.Bits.{size}
+use Rattle.octets.specs.Octets.{isWholeKey}
+use Rattle.octets.proofs.Octets.{whole-key}
 use Rattle.octets.proofs.Stored.{front-stored}
 use Rattle.kgcore.specs.Kgcore.{keyBit, kgcoreOrder}
 use Rattle.kgcore.proofs.kgcore.Statement.{statement}
@@ -18,8 +20,8 @@ use Rattle.kgcore.proofs.kgcore.Tie as tie
 
 -- ---- which causes hold, at each place
 
-key-right : (c : tie.Else1) → eqb (length (now (c .before .before .before .args .key))) 16 ≡ true
-key-right c = eq-eqb _ _ (c .if1 .left)
+key-right : (c : tie.Else1) → isWholeKey (now (c .before .before .before .args .key)) ≡ true
+key-right c = whole-key (now (c .before .before .before .args .key)) .1 (c .if1 .left)
 
 range-wrong : (c : tie.Joined2)
     → let inputs = c .before .before .before .before .before .args .inputs in (ltb 31 (inputs .cb) || ltb 1 (inputs .cd)) ≡ true

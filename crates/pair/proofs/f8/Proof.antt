@@ -11,16 +11,18 @@ use lib.Dec.{ltb}
 use lib.ListN.{length}
 use Rattle.refusals.specs.Refusal.{first}
 use Rattle.octets.specs.Bits.{size}
-use Rattle.pair.specs.Message.{isKey, isSize}
+use Rattle.octets.specs.Octets.{isWholeKey}
+use Rattle.octets.proofs.Octets.{whole-key}
+use Rattle.pair.specs.Message.{isBitCount}
 use Rattle.pair.specs.F8.{f8Order}
-use Rattle.pair.proofs.Message.{key-size, some-bits, most-bits}
+use Rattle.pair.proofs.Message.{some-bits, most-bits}
 use Rattle.pair.proofs.f8.Statement.{statement}
 use Rattle.pair.proofs.f8.Tie as tie
 
 -- ---- which causes hold, at each place
 
-key-right : (c : tie.Else1) → isKey (now (c .before .before .before .before .before .args .key)) ≡ true
-key-right c = sym (c .before .is-key .ensures) ∙ not-false _ (c .if1 .left)
+key-right : (c : tie.Else1) → isWholeKey (now (c .before .before .before .before .before .args .key)) ≡ true
+key-right c = sym (c .before .is-whole-key .ensures) ∙ not-false _ (c .if1 .left)
 
 range-wrong : (c : tie.Joined2)
     → let inputs = c .before .before .before .before .before .before .before .args .inputs in (ltb 31 (inputs .bearer) || ltb 1 (inputs .direction)) ≡ true
@@ -31,8 +33,8 @@ range-right : (c : tie.Else3)
     (ltb 31 (inputs .bearer) || ltb 1 (inputs .direction)) ≡ false
 range-right c = ap₂ _||_ (le-ltb _ _ (c .before .before .if2 .left)) (c .if3 .left)
 
-size-right : (c : tie.Else4) → isSize (c .before .before .before .before .before .before .before .before .before .before .before .args .bits) ≡ true
-size-right c = sym (c .before .is-size .ensures) ∙ not-false _ (c .if4 .left)
+size-right : (c : tie.Else4) → isBitCount (c .before .before .before .before .before .before .before .before .before .before .before .args .bits) ≡ true
+size-right c = sym (c .before .is-bit-count .ensures) ∙ not-false _ (c .if4 .left)
 
 -- past the first three, the message's octets and then the room decide
 rest-decides : (c : tie.Else4)
@@ -44,26 +46,26 @@ rest-decides c = rw (key-right (c .before .before .before .before .before .befor
 
 -- ---- the answers
 
-is-key-requires : tie.Need-is-key-requires
-is-key-requires c κs = search needs
+is-whole-key-requires : tie.Need-is-whole-key-requires
+is-whole-key-requires c κs = search needs
 
 returns : tie.Need-returns
 unfolding first f8Order
-returns c = record { refusal-is = rw (sym (c .before .is-key .ensures) ∙ not-true _ (c .if1 .taken)); numbers-are = refl; lent-is = refl }
+returns c = record { refusal-is = rw (sym (c .before .is-whole-key .ensures) ∙ not-true _ (c .if1 .taken)); numbers-are = refl; lent-is = refl }
 
 returns-2 : tie.Need-returns-2
 unfolding first f8Order
 returns-2 c = record { refusal-is = rw (key-right (c .before .before), range-wrong c); numbers-are = refl; lent-is = refl }
 
-is-size-requires : tie.Need-is-size-requires
-is-size-requires c κs = search needs
+is-bit-count-requires : tie.Need-is-bit-count-requires
+is-bit-count-requires c κs = search needs
 
 returns-3 : tie.Need-returns-3
 unfolding first f8Order
 returns-3 c =
     let at-range = c .before .before in
     record {
-      refusal-is = rw (key-right (at-range .before .before .before .before), range-right at-range, sym (c .before .is-size .ensures) ∙ not-true _ (c .if4 .taken));
+      refusal-is = rw (key-right (at-range .before .before .before .before), range-right at-range, sym (c .before .is-bit-count .ensures) ∙ not-true _ (c .if4 .taken));
       numbers-are = refl;
       lent-is = refl;
     }
@@ -99,7 +101,7 @@ put-ciphered-requires c κs =
     let at-bits = c .before .before .before .before in
     let at-key = at-bits .before .before .before .before .before .before in
     let given = at-key .before .before .before .before .before .args in
-    omega (arith, ltb-false, key-size (now (given .key)) (key-right at-key), some-bits (given .bits) (size-right at-bits), most-bits (given .bits) (size-right at-bits))
+    omega (arith, ltb-false, whole-key (now (given .key)) .0 (key-right at-key), some-bits (given .bits) (size-right at-bits), most-bits (given .bits) (size-right at-bits))
 
 same-length : tie.Need-same-length
 same-length c = search needs
@@ -122,10 +124,10 @@ pub f8-spec : {M : Type 1} → statement M
 f8-spec =
     tie.close
     (tie.spec
-    is-key-requires
+    is-whole-key-requires
     returns
     returns-2
-    is-size-requires
+    is-bit-count-requires
     returns-3
     size-requires
     returns-4

@@ -12,22 +12,24 @@ use lib.Dec.{ltb}
 use lib.ListN.{length}
 use Rattle.refusals.specs.Refusal.{first}
 use Rattle.octets.specs.Bits.{size}
-use Rattle.pair.specs.Message.{isKey, isSize}
+use Rattle.octets.specs.Octets.{isWholeKey}
+use Rattle.octets.proofs.Octets.{whole-key}
+use Rattle.pair.specs.Message.{isBitCount}
 use Rattle.pair.specs.F9.{f9Order}
-use Rattle.pair.proofs.Message.{key-size, most-bits}
+use Rattle.pair.proofs.Message.{most-bits}
 use Rattle.pair.proofs.f9.Statement.{statement}
 use Rattle.pair.proofs.f9.Tie as tie
 
 -- ---- which causes hold, at each place
 
-key-right : (c : tie.Else1) → isKey (now (c .before .before .before .before .args .key)) ≡ true
-key-right c = sym (c .before .is-key .ensures) ∙ not-false _ (c .if1 .left)
+key-right : (c : tie.Else1) → isWholeKey (now (c .before .before .before .before .args .key)) ≡ true
+key-right c = sym (c .before .is-whole-key .ensures) ∙ not-false _ (c .if1 .left)
 
 direction-right : (c : tie.Else2) → ltb 1 (c .before .before .before .before .before .before .args .inputs .direction) ≡ false
 direction-right c = le-ltb _ _ (c .if2 .left)
 
-size-right : (c : tie.Else3) → isSize (c .before .before .before .before .before .before .before .before .args .bits) ≡ true
-size-right c = sym (c .before .is-size .ensures) ∙ not-false _ (c .if3 .left)
+size-right : (c : tie.Else3) → isBitCount (c .before .before .before .before .before .before .before .before .args .bits) ≡ true
+size-right c = sym (c .before .is-bit-count .ensures) ∙ not-false _ (c .if3 .left)
 
 -- past the first three, the message's octets decide
 message-decides : (c : tie.Else3)
@@ -38,26 +40,26 @@ message-decides c = rw (key-right (c .before .before .before .before), direction
 
 -- ---- the answers
 
-is-key-requires : tie.Need-is-key-requires
-is-key-requires c κs = search needs
+is-whole-key-requires : tie.Need-is-whole-key-requires
+is-whole-key-requires c κs = search needs
 
 returns : tie.Need-returns
 unfolding first f9Order
-returns c = record { refusal-is = rw (sym (c .before .is-key .ensures) ∙ not-true _ (c .if1 .taken)); numbers-are = refl; lent-is = refl }
+returns c = record { refusal-is = rw (sym (c .before .is-whole-key .ensures) ∙ not-true _ (c .if1 .taken)); numbers-are = refl; lent-is = refl }
 
 returns-2 : tie.Need-returns-2
 unfolding first f9Order
 returns-2 c = record { refusal-is = rw (key-right (c .before .before), lt-ltb _ _ (c .if2 .taken)); numbers-are = refl; lent-is = refl }
 
-is-size-requires : tie.Need-is-size-requires
-is-size-requires c κs = search needs
+is-bit-count-requires : tie.Need-is-bit-count-requires
+is-bit-count-requires c κs = search needs
 
 returns-3 : tie.Need-returns-3
 unfolding first f9Order
 returns-3 c =
     let at-direction = c .before .before in
     record {
-      refusal-is = rw (key-right (at-direction .before .before), direction-right at-direction, sym (c .before .is-size .ensures) ∙ not-true _ (c .if3 .taken));
+      refusal-is = rw (key-right (at-direction .before .before), direction-right at-direction, sym (c .before .is-bit-count .ensures) ∙ not-true _ (c .if3 .taken));
       numbers-are = refl;
       lent-is = refl;
     }
@@ -79,7 +81,7 @@ code-requires c κs =
     let at-bits = c .before .before in
     let at-key = at-bits .before .before .before .before in
     let given = at-key .before .before .before .before .args in
-    omega (arith, key-size (now (given .key)) (key-right at-key), most-bits (given .bits) (size-right at-bits))
+    omega (arith, whole-key (now (given .key)) .0 (key-right at-key), most-bits (given .bits) (size-right at-bits))
 
 returns-5 : tie.Need-returns-5
 returns-5 c =
@@ -94,4 +96,4 @@ returns-5 c =
 pub f9-spec : {M : Type 1} → statement M
 f9-spec =
     tie.close
-    (tie.spec is-key-requires returns returns-2 is-size-requires returns-3 size-requires returns-4 code-requires returns-5)
+    (tie.spec is-whole-key-requires returns returns-2 is-bit-count-requires returns-3 size-requires returns-4 code-requires returns-5)

@@ -14,10 +14,10 @@ use Rattle.refusals.specs.Call.{front}
 use Rattle.octets.specs.Bits.{bitAt, bitOf, part, octet, listed, size}
 use Rattle.octets.proofs.Listed.{length-listed-front, getD-listed-front}
 use Rattle.octets.proofs.Stored.{part-in, part-lt, bitOf-lt, stored-cleared, stored-ext, front-stored}
+use Rattle.octets.proofs.XoredBits.{xor-put}
 use Rattle.kgcore.specs.Kgcore.{keyBit}
 use Rattle.kgcore.proofs.Laws.{kgcore-done, keyBit-lt}
 use Rattle.pair.specs.F8.{f8Core, f8Bit, f8Output}
-use Rattle.pair.proofs.Xored.{xor-put}
 use Rattle.pair.proofs.put_ciphered.Statement.{statement}
 use Rattle.pair.proofs.put_ciphered.Tie as tie
 

@@ -9,11 +9,11 @@ use lib.Seq.{length-take-le}
 use mathlib.Core.Path.{_≡_, refl, sym, ap, subst, _∙_}
 use lib.Dec.{T}
 use native.Mathlib.Omega.{arith}
-use Rattle.lines.specs.Hearing.{Standing, heardAfter}
+use Rattle.lines.specs.Hearing.{Standing, heardAfter, standing}
 use Rattle.lines.proofs.Hearing.{heard-next, heard-all}
 use Rattle.lines.proofs.Run.{then-hearing}
 use Rattle.lines.proofs.Callers.{put-within}
-use Rattle.stream.specs.Stream.{streamRules, standing}
+use Rattle.stream.specs.Stream.{streamRules}
 use Rattle.stream.proofs.hear_piece.Statement.{statement}
 use Rattle.stream.proofs.hear_piece.Tie as tie
 

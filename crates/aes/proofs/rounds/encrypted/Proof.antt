@@ -4,11 +4,12 @@
 use borrow.Author.Needs.{needs}
 use Prim.Native.Nat.{ℕ, _+_, _-_, _≤_, _<_}
 use native.Mathlib.Omega.{arith}
-use mathlib.Core.Path.{_≡_, ap, subst, _∙_}
+use mathlib.Core.Path.{_≡_, ap, _∙_}
 use mathlib.Core.List.{List}
 use denote.Ref.{now}
+use Rattle.octets.specs.Octets.{AreOctets}
 use Rattle.aes.specs.Aes.{stateOf, rounds, blockOf}
-use Rattle.aes.specs.Columns.{AreOctets, columnsOf, held}
+use Rattle.aes.specs.Columns.{columnsOf, held}
 use Rattle.aes.specs.declared.rounds.Columns.{Columns}
 use Rattle.aes.proofs.States.{one-round-more, block-encrypted}
 use Rattle.aes.proofs.rounds.encrypted.Statement.{statement}

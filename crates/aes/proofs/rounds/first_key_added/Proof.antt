@@ -1,4 +1,4 @@
--- `aes::rounds::first_key_added` meets its contract: the block's columns, each met by its word of the first round key.
+-- `aes::rounds::first_key_added` meets its contract: the block's columns, each xored with its word of the first round key.
 -- Assumes nothing.
 use borrow.Author.Needs.{needs}
 use Prim.Native.Nat.{ℕ, _+_, _*_, _^_, _<_}
@@ -7,8 +7,9 @@ use mathlib.Core.List.{List}
 use denote.Ref.{now}
 use lib.Bits.{bitXor}
 use lib.ListN.{getD}
+use Rattle.octets.specs.Octets.{AreOctets}
 use Rattle.aes.specs.Aes.{State, stateOf, keyWord}
-use Rattle.aes.specs.Columns.{AreOctets, columnOf}
+use Rattle.aes.specs.Columns.{columnOf}
 use Rattle.aes.proofs.FourOctets.{each-of-4, same-lt}
 use Rattle.aes.proofs.States.{state-octets, added-columns}
 use Rattle.aes.proofs.rounds.first_key_added.Statement.{statement}

@@ -1,8 +1,9 @@
 -- `challenge::requests::hear` meets its contract: the tests of the room and of the octet pick the case.
 -- Assumes nothing.
 use mathlib.Core.Path.{ap}
+use Rattle.lines.specs.Hearing.{standing}
 use Rattle.lines.proofs.Calls.{hear-no-room, hear-feed, hear-other}
-use Rattle.challenge.specs.Challenge.{challengeRules, standing}
+use Rattle.challenge.specs.Challenge.{challengeRules}
 use borrow.Author.Needs.{needs}
 use Rattle.challenge.proofs.requests.hear.Statement.{statement}
 use Rattle.challenge.proofs.requests.hear.Tie as tie

@@ -4,7 +4,7 @@ use native.Mathlib.Omega.{arith}
 use Rattle.demo.specs.Ends.{frameKept}
 use Rattle.demo.proofs.Steps.{line-put, gave}
 use lib.ListN.{length}
-use mathlib.Core.Path.{_≡_, sym}
+use mathlib.Core.Path.{_≡_, refl, sym}
 use borrow.Author.Needs.{needs}
 use Rattle.demo.proofs.acts.give.Statement.{statement}
 use Rattle.demo.proofs.acts.give.Tie as tie
@@ -17,13 +17,13 @@ array-read-size : tie.Need-array-read-size
 array-read-size c = search needs
 
 slice-aggregate-add-column : tie.Need-slice-aggregate-add-column
-slice-aggregate-add-column c = search needs
+slice-aggregate-add-column c = refl
 
 add-column-requires : tie.Need-add-column-requires
 add-column-requires c κs = search needs
 
 slice-aggregate-add-counted : tie.Need-slice-aggregate-add-counted
-slice-aggregate-add-counted c = search needs
+slice-aggregate-add-counted c = refl
 
 cast-add-counted : tie.Need-cast-add-counted
 cast-add-counted c = search needs
@@ -46,7 +46,7 @@ same-length c = search needs
 returns : tie.Need-returns
 unfolding frameKept
 returns c =
-    let at-hand = c .before .before .before .before in
+    let at-hand = c .before .before .before in
     let at-frame = at-hand .before .before in
     let at-counted = at-frame .before .before .before .before in
     let at-hyphen = at-counted .before .before .before .before .before in

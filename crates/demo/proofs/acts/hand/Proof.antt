@@ -4,7 +4,7 @@ use Prim.Native.Nat.{_≤_}
 use denote.Ref.{now}
 use lib.ListN.{length, take}
 use lib.Seq.{length-take-le}
-use mathlib.Core.Path.{_≡_, sym}
+use mathlib.Core.Path.{_≡_, refl, sym}
 use native.Mathlib.Omega.{arith}
 use Rattle.refusals.proofs.Calls.{is-outcome}
 use Rattle.numbering.specs.Numbering.{width}
@@ -25,20 +25,20 @@ within : (c : tie.After-open) → c .«open» .result .size ≤ length (c .«ope
 within c = omega (arith, fits c, c .«open» .kept .1 .1 .0)
 
 slice-aggregate-open : tie.Need-slice-aggregate-open
-slice-aggregate-open c = search needs
+slice-aggregate-open c = refl
 
 open-requires : tie.Need-open-requires
-open-requires c κs = search needs
+open-requires c κs = tt
 
 array-share-prefix-text : tie.Need-array-share-prefix-text
-array-share-prefix-text c = within (c .before .before .before)
+array-share-prefix-text c = within (c .before)
 
 slice-aggregate-add-cell : tie.Need-slice-aggregate-add-cell
-slice-aggregate-add-cell c = sym (length-take-le _ _ (within (c .before .before .before .before)))
+slice-aggregate-add-cell c = sym (length-take-le _ _ (within (c .before .before)))
 
 add-cell-requires : tie.Need-add-cell-requires
 add-cell-requires c κs =
-    let at-open = c .before .before .before .before .before in
+    let at-open = c .before .before .before in
     let size = at-open .«open» .result .size in
     let long : length (take size (at-open .«open» .last .1 .1 .0)) ≡ size = length-take-le size (at-open .«open» .last .1 .1 .0) (within at-open) in
     (omega (arith, fits at-open), search needs)
@@ -49,9 +49,9 @@ same-length c = search needs
 returns : tie.Need-returns
 unfolding frameRoom
 returns c =
-    let at-open = c .before .before .before .before .before .before .before .before in
+    let at-open = c .before .before .before .before .before .before .before in
     let given = at-open .before .before .before .before .args in
-    handed (given .cell) (now (given .octets)) (is-outcome (openCall width (given .cell) (now (given .octets)) frameRoom) (at-open .«open» .ensures)) (c .before .before .add-cell .ensures)
+    handed (given .cell) (now (given .octets)) (is-outcome (openCall width (given .cell) (now (given .octets)) frameRoom) (at-open .«open» .ensures)) (c .before .before .before .add-cell .ensures)
 
 pub hand-spec : {M : Type 1} → statement M
 hand-spec =

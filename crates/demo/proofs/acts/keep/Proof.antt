@@ -3,7 +3,7 @@
 use denote.Ref.{now}
 use lib.ListN.{length, take}
 use lib.Seq.{length-take-le}
-use mathlib.Core.Path.{_≡_, sym}
+use mathlib.Core.Path.{_≡_, refl, sym}
 use native.Mathlib.Omega.{arith}
 use Prim.Native.Nat.{_≤_}
 use Rattle.refusals.proofs.Calls.{is-outcome}
@@ -27,16 +27,16 @@ long : (c : tie.After-seal) → length (take (c .seal .result .size) (c .seal .l
 long c = length-take-le (c .seal .result .size) (c .seal .last .1 .1 .0) (within c)
 
 slice-aggregate-seal : tie.Need-slice-aggregate-seal
-slice-aggregate-seal c = search needs
+slice-aggregate-seal c = refl
 
 seal-requires : tie.Need-seal-requires
-seal-requires c κs = search needs
+seal-requires c κs = tt
 
 add-sealed-requires : tie.Need-add-sealed-requires
 add-sealed-requires c κs = search needs
 
 slice-aggregate-add-counted : tie.Need-slice-aggregate-add-counted
-slice-aggregate-add-counted c = search needs
+slice-aggregate-add-counted c = refl
 
 cast-add-counted : tie.Need-cast-add-counted
 cast-add-counted c = search needs
@@ -45,14 +45,14 @@ add-counted-requires : tie.Need-add-counted-requires
 add-counted-requires c κs = search needs
 
 array-share-prefix-frame : tie.Need-array-share-prefix-frame
-array-share-prefix-frame c = within (c .before .before .before .before .before .before .before .before .before .before .before .before)
+array-share-prefix-frame c = within (c .before .before .before .before .before .before .before .before .before .before)
 
 slice-aggregate-shelve : tie.Need-slice-aggregate-shelve
-slice-aggregate-shelve c = sym (long (c .before .before .before .before .before .before .before .before .before .before .before .before .before))
+slice-aggregate-shelve c = sym (long (c .before .before .before .before .before .before .before .before .before .before .before))
 
 shelve-requires : tie.Need-shelve-requires
 shelve-requires c κs =
-    let at-seal = c .before .before .before .before .before .before .before .before .before .before .before .before .before in
+    let at-seal = c .before .before .before .before .before .before .before .before .before .before .before in
     (at-seal .before .before .before .before .pre .0, omega (arith, long at-seal, fits at-seal))
 
 add-silence-requires : tie.Need-add-silence-requires
@@ -65,7 +65,7 @@ returns : tie.Need-returns
 unfolding frameRoom
 returns c =
     let at-shelf = c .before .before .before .before .before in
-    let at-counted = at-shelf .before .before .before .before .before .before in
+    let at-counted = at-shelf .before .before .before .before in
     let at-sealed = at-counted .before .before .before .before .before in
     let at-seal = at-sealed .before .before .before in
     let at-start = at-seal .before .before .before .before in

@@ -1,5 +1,6 @@
 -- `demo::acts::lose` meets its contract: the last of the frames is sealed after the others.
 -- Assumes nothing.
+use mathlib.Core.Path.{refl}
 use native.Mathlib.Omega.{arith}
 use Rattle.refusals.proofs.Calls.{is-outcome}
 use Rattle.sender.specs.Sender.{sealCall}
@@ -14,22 +15,22 @@ sub-lose-times : tie.Need-sub-lose-times
 sub-lose-times c = search needs
 
 lose-times-requires : tie.Need-lose-times-requires
-lose-times-requires c κs = search needs
+lose-times-requires c κs = tt
 
 slice-aggregate-seal : tie.Need-slice-aggregate-seal
-slice-aggregate-seal c = search needs
+slice-aggregate-seal c = refl
 
 slice-aggregate-seal-2 : tie.Need-slice-aggregate-seal-2
-slice-aggregate-seal-2 c = search needs
+slice-aggregate-seal-2 c = refl
 
 seal-requires : tie.Need-seal-requires
-seal-requires c κs = search needs
+seal-requires c κs = tt
 
 add-sealed-requires : tie.Need-add-sealed-requires
 add-sealed-requires c κs = search needs
 
 slice-aggregate-add-counted : tie.Need-slice-aggregate-add-counted
-slice-aggregate-add-counted c = search needs
+slice-aggregate-add-counted c = refl
 
 add-counted-requires : tie.Need-add-counted-requires
 add-counted-requires c κs = search needs
@@ -43,13 +44,13 @@ same-length c = search needs
 returns : tie.Need-returns
 unfolding frameRoom
 returns c =
-    let at-counted = c .before .before .before .before .before .before .before .before .before .before in
+    let at-counted = c .before .before .before .before .before .before .before in
     let at-sealed = at-counted .before .before .before .before .before in
     let at-seal = at-sealed .before .before .before in
     let at-before = at-seal .before .before .before in
     let at-start = at-before .before .before in
     lost (at-start .args .stage) (at-start .args .count) (at-before .lose-times .ensures) (is-outcome (sealCall (at-before .lose-times .result) (quoted "lost") frameRoom) (at-seal .seal .ensures))
-    (line-put (omega (arith, at-start .pre .1 .1)) (at-sealed .add-sealed .ensures) (at-counted .add-counted .ensures) (c .before .before .add-silence .ensures))
+    (line-put (omega (arith, at-start .pre .1 .1)) (at-sealed .add-sealed .ensures) (at-counted .add-counted .ensures) (c .before .before .before .add-silence .ensures))
 
 pub lose-spec : {M : Type 1} → statement M
 lose-spec =

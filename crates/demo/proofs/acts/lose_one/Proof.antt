@@ -1,24 +1,22 @@
 -- `demo::acts::lose_one` meets its contract.
 -- Assumes nothing.
-use Prim.Native.Nat.{ℕ}
-use mathlib.Core.Path.{ap}
+use mathlib.Core.Path.{refl, ap}
 use Rattle.refusals.specs.Call.{Outcome}
 use Rattle.refusals.proofs.Calls.{is-outcome}
 use Rattle.sender.specs.Sender.{Sealing, sealCall}
 use Rattle.demo.specs.Words.{quoted}
 use Rattle.demo.specs.Ends.{frameRoom}
-use borrow.Author.Needs.{needs}
 use Rattle.demo.proofs.acts.lose_one.Statement.{statement}
 use Rattle.demo.proofs.acts.lose_one.Tie as tie
 
 slice-aggregate-seal : tie.Need-slice-aggregate-seal
-slice-aggregate-seal c = search needs
+slice-aggregate-seal c = refl
 
 slice-aggregate-seal-2 : tie.Need-slice-aggregate-seal-2
-slice-aggregate-seal-2 c = search needs
+slice-aggregate-seal-2 c = refl
 
 seal-requires : tie.Need-seal-requires
-seal-requires c κs = search needs
+seal-requires c κs = tt
 
 returns : tie.Need-returns
 unfolding frameRoom

@@ -7,7 +7,6 @@ use Rattle.sender.specs.declared.Sender.{Sender}
 use Rattle.demo.specs.Words.{quoted}
 use Rattle.demo.specs.Ends.{phoneAnswer, phoneAfter}
 use Rattle.demo.proofs.Ends.{phone-next, phone-none}
-use borrow.Author.Needs.{needs}
 use Rattle.demo.proofs.acts.lose_times.Statement.{statement}
 use Rattle.demo.proofs.acts.lose_times.Tie as tie
 
@@ -21,7 +20,7 @@ loop-holds : tie.Need-loop-holds Inv-loop μ-loop
 loop-holds c = (omega arith, phone-none (c .args .phone))
 
 lose-one-requires : tie.Need-lose-one-requires Inv-loop μ-loop
-lose-one-requires c κs = search needs
+lose-one-requires c κs = tt
 
 add-i : tie.Need-add-i Inv-loop μ-loop
 add-i c = omega arith

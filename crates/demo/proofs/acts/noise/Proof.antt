@@ -1,13 +1,15 @@
--- `demo::acts::noise` meets its contract: pairs of hex digits are octets.
+-- `demo::acts::noise` meets its contract: pairs of hex digits are octets, and they are the ones handed.
 -- Assumes nothing.
 use Prim.Native.Nat.{_≤_}
 use denote.Ref.{now}
 use lib.ListN.{length}
 use lib.Seq.{length-take-le}
 use mathlib.Core.Path.{refl, sym}
+use native.Mathlib.Omega.{arith}
 use Rattle.lines.specs.Text.{hexOrder, hexOctets}
 use Rattle.lines.proofs.Callers.{put-within}
-use Rattle.demo.proofs.Steps.{stepped-as, noise-none, noise-some}
+use Rattle.demo.specs.Columns.{column}
+use Rattle.demo.proofs.Steps.{front-put, handed-over, stepped-as, noise-none, noise-some}
 use borrow.Author.Needs.{needs}
 use Rattle.demo.proofs.acts.noise.Statement.{statement}
 use Rattle.demo.proofs.acts.noise.Tie as tie
@@ -17,10 +19,10 @@ within : (c : tie.After-octets-of-hex) → c .octets-of-hex .result .count ≤ l
 within c = put-within (hexOrder (now (c .before .before .before .before .args .text)) _) (hexOctets (now (c .before .before .before .before .args .text))) _ (c .octets-of-hex .ensures)
 
 slice-aggregate-octets-of-hex : tie.Need-slice-aggregate-octets-of-hex
-slice-aggregate-octets-of-hex c = search needs
+slice-aggregate-octets-of-hex c = refl
 
 octets-of-hex-requires : tie.Need-octets-of-hex-requires
-octets-of-hex-requires c κs = search needs
+octets-of-hex-requires c κs = tt
 
 nothing-requires : tie.Need-nothing-requires
 nothing-requires c κs = search needs
@@ -35,24 +37,35 @@ returns c =
     stepped-as (noise-none (at-start .args .stage) (now (at-start .args .text)) (at-start .pre .0) _ refl (at-octets .octets-of-hex .ensures) (c .before .before .before .before .if1 .taken))
     (c .before .before .nothing .ensures)
 
+slice-aggregate-add : tie.Need-slice-aggregate-add
+slice-aggregate-add c = refl
+
+add-requires : tie.Need-add-requires
+add-requires c κs = search needs
+
 array-share-prefix-octets : tie.Need-array-share-prefix-octets
-array-share-prefix-octets c = within (c .before .before .before)
+array-share-prefix-octets c = within (c .before .before .before .before .before .before .before .before)
 
-slice-aggregate-hand-over : tie.Need-slice-aggregate-hand-over
-slice-aggregate-hand-over c = sym (length-take-le _ _ (within (c .before .before .before .before)))
+slice-aggregate-hand : tie.Need-slice-aggregate-hand
+slice-aggregate-hand c = sym (length-take-le _ _ (within (c .before .before .before .before .before .before .before .before .before)))
 
-hand-over-requires : tie.Need-hand-over-requires
-hand-over-requires c κs = search needs
+hand-requires : tie.Need-hand-requires
+hand-requires c κs = search needs
 
 same-length-2 : tie.Need-same-length-2
 same-length-2 c = search needs
 
 returns-2 : tie.Need-returns-2
+unfolding column
 returns-2 c =
-    let at-octets = c .before .before .before .before .before .before .before .before in
+    let at-hand = c .before .before .before in
+    let at-words = at-hand .before .before .before .before .before in
+    let at-some = at-words .before .before .before in
+    let at-octets = at-some .before .before .before in
     let at-start = at-octets .before .before .before .before in
-    stepped-as (noise-some (at-start .args .stage) (now (at-start .args .text)) (at-start .pre .0) _ refl (at-octets .octets-of-hex .ensures) (c .before .before .before .before .before .if1 .left))
-    (c .before .before .hand-over .ensures)
+    stepped-as (noise-some (at-start .args .stage) (now (at-start .args .text)) (at-start .pre .0) _ refl (at-octets .octets-of-hex .ensures) (at-some .if1 .left))
+    (handed-over (at-start .args .stage) _ (at-hand .hand .ensures .cell-is)
+    (front-put (omega (arith, at-start .pre .1)) (at-words .add .ensures) (at-hand .hand .ensures .columns-are)))
 
 pub noise-spec : {M : Type 1} → statement M
 noise-spec =
@@ -63,8 +76,10 @@ noise-spec =
     nothing-requires
     same-length
     returns
+    slice-aggregate-add
+    add-requires
     array-share-prefix-octets
-    slice-aggregate-hand-over
-    hand-over-requires
+    slice-aggregate-hand
+    hand-requires
     same-length-2
     returns-2)

@@ -9,7 +9,7 @@ use Rattle.demo.proofs.acts.nothing.Statement.{statement}
 use Rattle.demo.proofs.acts.nothing.Tie as tie
 
 slice-aggregate-add-column : tie.Need-slice-aggregate-add-column
-slice-aggregate-add-column c = search needs
+slice-aggregate-add-column c = refl
 
 add-column-requires : tie.Need-add-column-requires
 add-column-requires c κs = search needs
@@ -26,7 +26,7 @@ same-length c = search needs
 returns : tie.Need-returns
 unfolding nothing
 returns c =
-    let at-why = c .before .before .before .before .before .before .before .before in
+    let at-why = c .before .before .before .before .before .before in
     let at-bad = at-why .before .before .before .before in
     record {
       stage-is = refl;

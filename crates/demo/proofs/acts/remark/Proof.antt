@@ -14,7 +14,7 @@ put : (c : tie.After-put-text) → AtFront (now (c .before .before .before .befo
 put c = at-front-put _ _ (c .put-text .ensures) (omega (arith, c .before .before .before .before .pre .0, c .before .before .before .before .pre .1)) refl
 
 put-text-requires : tie.Need-put-text-requires
-put-text-requires c κs = search needs
+put-text-requires c κs = tt
 
 slice-write-output : tie.Need-slice-write-output
 slice-write-output c =

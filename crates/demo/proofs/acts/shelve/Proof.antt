@@ -1,6 +1,5 @@
 -- `demo::acts::shelve` meets its contract: the frame is put to its place.
 -- Assumes nothing.
-use Prim.Native.Nat.{ℕ, _+_, _*_}
 use denote.Ref.{now}
 use lib.ListN.{length, set}
 use mathlib.Core.Path.{_≡_}

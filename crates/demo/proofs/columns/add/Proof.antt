@@ -17,7 +17,7 @@ part-put-text-end : tie.Need-part-put-text-end
 part-put-text-end c = search needs
 
 put-text-requires : tie.Need-put-text-requires
-put-text-requires c κs = search needs
+put-text-requires c κs = tt
 
 same-length : tie.Need-same-length
 same-length c = search needs

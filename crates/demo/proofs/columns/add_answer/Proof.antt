@@ -2,12 +2,13 @@
 -- Assumes nothing.
 use borrow.Author.Tests.{eq-eqb, ne-eqb}
 use Rattle.demo.specs.Columns.{answerText}
+use mathlib.Core.Path.{refl}
 use borrow.Author.Needs.{needs}
 use Rattle.demo.proofs.columns.add_answer.Statement.{statement}
 use Rattle.demo.proofs.columns.add_answer.Tie as tie
 
 slice-aggregate-add-column : tie.Need-slice-aggregate-add-column
-slice-aggregate-add-column c = search needs
+slice-aggregate-add-column c = refl
 
 add-column-requires : tie.Need-add-column-requires
 add-column-requires c κs = search needs

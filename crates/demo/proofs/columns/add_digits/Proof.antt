@@ -18,7 +18,7 @@ part-decimal-of-number-end : tie.Need-part-decimal-of-number-end
 part-decimal-of-number-end c = search needs
 
 decimal-of-number-requires : tie.Need-decimal-of-number-requires
-decimal-of-number-requires c κs = search needs
+decimal-of-number-requires c κs = tt
 
 same-length : tie.Need-same-length
 same-length c = search needs

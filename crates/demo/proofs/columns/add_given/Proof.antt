@@ -1,6 +1,7 @@
 -- `demo::columns::add_given` meets its contract: the number, or a hyphen.
 -- Assumes nothing.
 use Rattle.demo.specs.Columns.{numberText}
+use mathlib.Core.Path.{refl}
 use borrow.Author.Needs.{needs}
 use Rattle.demo.proofs.columns.add_given.Statement.{statement}
 use Rattle.demo.proofs.columns.add_given.Tie as tie
@@ -16,7 +17,7 @@ unfolding numberText
 returns c = rw (c .before .before .before .before .if1 .taken) (c .before .before .add-number .ensures)
 
 slice-aggregate-add-column : tie.Need-slice-aggregate-add-column
-slice-aggregate-add-column c = search needs
+slice-aggregate-add-column c = refl
 
 add-column-requires : tie.Need-add-column-requires
 add-column-requires c κs = search needs

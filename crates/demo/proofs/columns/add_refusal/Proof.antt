@@ -7,7 +7,7 @@ use Rattle.demo.proofs.columns.add_refusal.Statement.{statement}
 use Rattle.demo.proofs.columns.add_refusal.Tie as tie
 
 slice-aggregate-add-row-of : tie.Need-slice-aggregate-add-row-of
-slice-aggregate-add-row-of c = search needs
+slice-aggregate-add-row-of c = refl
 
 add-row-of-requires : tie.Need-add-row-of-requires
 unfolding refusalWords

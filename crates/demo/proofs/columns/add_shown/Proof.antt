@@ -35,7 +35,7 @@ shared-slice-read-shown : tie.Need-shared-slice-read-shown Inv-loop μ-loop
 shared-slice-read-shown c = omega arith
 
 shown-requires : tie.Need-shown-requires Inv-loop μ-loop
-shown-requires c κs = search needs
+shown-requires c κs = tt
 
 add-output : tie.Need-add-output Inv-loop μ-loop
 add-output c = omega (arith, c .before .before .before .before .before .before .pre)

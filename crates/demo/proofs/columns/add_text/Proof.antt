@@ -1,7 +1,7 @@
 -- `demo::columns::add_text` meets its contract: a hyphen, or the text as it is shown.
 -- Assumes nothing.
 use denote.Ref.{now}
-use mathlib.Core.Path.{sym}
+use mathlib.Core.Path.{refl, sym}
 use native.Mathlib.Omega.{arith}
 use Rattle.lines.proofs.Placed.{added-octet}
 use Rattle.demo.proofs.Texts.{length-shown, text-none, text-some}
@@ -10,7 +10,7 @@ use Rattle.demo.proofs.columns.add_text.Statement.{statement}
 use Rattle.demo.proofs.columns.add_text.Tie as tie
 
 slice-aggregate-add : tie.Need-slice-aggregate-add
-slice-aggregate-add c = search needs
+slice-aggregate-add c = refl
 
 add-requires : tie.Need-add-requires
 add-requires c κs = search needs

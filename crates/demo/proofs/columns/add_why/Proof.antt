@@ -4,7 +4,7 @@ use Prim.Native.Nat.{ℕ, _*_}
 use denote.Ref.{now}
 use lib.ListN.{take, drop}
 use mathlib.Core.List.{List}
-use mathlib.Core.Path.{_∙_, ap, subst}
+use mathlib.Core.Path.{refl, _∙_, ap, subst}
 use native.Mathlib.Omega.{arith}
 use Rattle.lines.specs.Text.{Added}
 use Rattle.demo.specs.Words.{joined, whyWords}
@@ -15,10 +15,10 @@ use Rattle.demo.proofs.columns.add_why.Statement.{statement}
 use Rattle.demo.proofs.columns.add_why.Tie as tie
 
 slice-aggregate-add-row : tie.Need-slice-aggregate-add-row
-slice-aggregate-add-row c = search needs
+slice-aggregate-add-row c = refl
 
 row-of-requires : tie.Need-row-of-requires
-row-of-requires c κs = search needs
+row-of-requires c κs = tt
 
 mul-add-row : tie.Need-mul-add-row
 unfolding whyWords

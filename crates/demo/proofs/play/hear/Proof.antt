@@ -10,7 +10,7 @@ obey-heard-requires : tie.Need-obey-heard-requires
 obey-heard-requires c κs = search needs
 
 silence-requires : tie.Need-silence-requires
-silence-requires c κs = search needs
+silence-requires c κs = tt
 
 same-length : tie.Need-same-length
 same-length c = search needs
@@ -24,7 +24,7 @@ returns c =
     (at-obey .obey-heard .ensures .said-is)
 
 kept-requires : tie.Need-kept-requires
-kept-requires c κs = search needs
+kept-requires c κs = tt
 
 returns-2 : tie.Need-returns-2
 returns-2 c =

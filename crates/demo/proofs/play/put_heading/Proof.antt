@@ -10,10 +10,10 @@ use Rattle.demo.proofs.play.put_heading.Statement.{statement}
 use Rattle.demo.proofs.play.put_heading.Tie as tie
 
 slice-aggregate-put-text : tie.Need-slice-aggregate-put-text
-slice-aggregate-put-text c = search needs
+slice-aggregate-put-text c = refl
 
 put-text-requires : tie.Need-put-text-requires
-put-text-requires c κs = search needs
+put-text-requires c κs = tt
 
 same-length : tie.Need-same-length
 same-length c = search needs

@@ -5,7 +5,7 @@ use denote.Ref.{now}
 use mathlib.Core.Bool.{true}
 use mathlib.Core.Path.{_≡_, sym, _∙_}
 use Rattle.demo.specs.Script.{allPrintable}
-use Rattle.demo.proofs.Lines.{is-long, is-empty, is-octet, is-remark, is-command}
+use Rattle.demo.proofs.Lines.{begins-hash, begins-other, is-long, is-empty, is-octet, is-remark, is-command}
 use borrow.Author.Needs.{needs}
 use Rattle.demo.proofs.script.asked_by.Statement.{statement}
 use Rattle.demo.proofs.script.asked_by.Tie as tie
@@ -20,30 +20,29 @@ returns-2 : tie.Need-returns-2
 returns-2 c = is-empty (now (c .before .before .before .args .line)) (c .before .if1 .left) (c .if2 .taken)
 
 all-printable-requires : tie.Need-all-printable-requires
-all-printable-requires c κs = search needs
+all-printable-requires c κs = tt
 
 returns-3 : tie.Need-returns-3
 returns-3 c = is-octet (now (c .before .before .before .before .before .args .line)) (c .before .before .before .if1 .left) (c .before .before .if2 .left) (sym (c .before .all-printable .ensures) ∙ not-true _ (c .if3 .taken))
 
-slice-aggregate-begins : tie.Need-slice-aggregate-begins
-slice-aggregate-begins c = search needs
-
-begins-requires : tie.Need-begins-requires
-begins-requires c κs = search needs
+shared-slice-read-if4 : tie.Need-shared-slice-read-if4
+shared-slice-read-if4 c = search needs
 
 returns-4 : tie.Need-returns-4
 returns-4 c =
-    let at : tie.Else3 = c .before .before .before in
-    is-remark (now (c .before .before .before .before .before .before .before .before .args .line)) (at .before .before .before .if1 .left) (at .before .before .if2 .left) (printable at) (sym (c .before .begins .ensures) ∙ c .if4 .taken)
+    let at : tie.Else3 = c .before .before in
+    let line = now (at .before .before .before .before .before .args .line) in
+    is-remark line (at .before .before .before .if1 .left) (at .before .before .if2 .left) (printable at) (begins-hash line (at .before .before .if2 .left) (c .if4 .taken))
 
 asked-command-requires : tie.Need-asked-command-requires
-asked-command-requires c κs = search needs
+asked-command-requires c κs = tt
 
 returns-5 : tie.Need-returns-5
 returns-5 c =
-    let at : tie.Else3 = c .before .before .before .before in
+    let at : tie.Else3 = c .before .before .before in
+    let line = now (at .before .before .before .before .before .args .line) in
     c .asked-command .ensures
-    ∙ is-command (now (c .before .before .before .before .before .before .before .before .before .args .line)) (at .before .before .before .if1 .left) (at .before .before .if2 .left) (printable at) (sym (c .before .before .begins .ensures) ∙ c .before .if4 .left)
+    ∙ is-command line (at .before .before .before .if1 .left) (at .before .before .if2 .left) (printable at) (begins-other line (at .before .before .if2 .left) (c .before .if4 .left))
 
 pub asked-by-spec : {M : Type 1} → statement M
 asked-by-spec =
@@ -53,8 +52,7 @@ asked-by-spec =
     returns-2
     all-printable-requires
     returns-3
-    slice-aggregate-begins
-    begins-requires
+    shared-slice-read-if4
     returns-4
     asked-command-requires
     returns-5)

@@ -10,7 +10,7 @@ shared-slice-read-place-of : tie.Need-shared-slice-read-place-of
 shared-slice-read-place-of c = search needs
 
 place-of-requires : tie.Need-place-of-requires
-place-of-requires c κs = search needs
+place-of-requires c κs = tt
 
 returns : tie.Need-returns
 returns c = give-nowhere (now (c .before .before .before .before .before .args .rest)) (c .before .place-of .ensures) (c .before .before .before .if1 .taken) (c .if2 .taken)

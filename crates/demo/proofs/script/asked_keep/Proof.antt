@@ -13,7 +13,7 @@ shared-slice-read-place-of : tie.Need-shared-slice-read-place-of
 shared-slice-read-place-of c = search needs
 
 place-of-requires : tie.Need-place-of-requires
-place-of-requires c κs = search needs
+place-of-requires c κs = tt
 
 returns-2 : tie.Need-returns-2
 returns-2 c = keep-nowhere (now (c .before .before .before .before .before .args .rest)) (c .before .place-of .ensures) (c .before .before .before .if1 .left) (c .if2 .taken)

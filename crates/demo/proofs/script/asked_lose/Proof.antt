@@ -2,12 +2,11 @@
 -- Assumes nothing.
 use denote.Ref.{now}
 use Rattle.demo.proofs.Lines.{lose-none, lose-some}
-use borrow.Author.Needs.{needs}
 use Rattle.demo.proofs.script.asked_lose.Statement.{statement}
 use Rattle.demo.proofs.script.asked_lose.Tie as tie
 
 count-of-requires : tie.Need-count-of-requires
-count-of-requires c κs = search needs
+count-of-requires c κs = tt
 
 returns : tie.Need-returns
 returns c = lose-none (now (c .before .before .before .args .rest)) (c .before .count-of .ensures) (c .if1 .taken)

@@ -3,7 +3,6 @@
 use denote.Ref.{now}
 use native.Mathlib.Omega.{arith}
 use Rattle.demo.proofs.Lines.{count-long, count-below, count-read}
-use borrow.Author.Needs.{needs}
 use Rattle.demo.proofs.script.count_of.Statement.{statement}
 use Rattle.demo.proofs.script.count_of.Tie as tie
 
@@ -11,7 +10,7 @@ returns : tie.Need-returns
 returns c = count-long _ (c .if1 .taken)
 
 decimal-requires : tie.Need-decimal-requires
-decimal-requires c κs = search needs
+decimal-requires c κs = tt
 
 cast-result : tie.Need-cast-result
 cast-result c =

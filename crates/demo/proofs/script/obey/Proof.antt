@@ -30,7 +30,7 @@ unfolding obeyed
 step c told = ap (doneFor (stage c) (line c)) (sym told ∙ c .asked-by .ensures)
 
 asked-by-requires : tie.Need-asked-by-requires
-asked-by-requires c κs = search needs
+asked-by-requires c κs = tt
 
 enum-told : tie.Need-enum-told
 enum-told c = search needs
@@ -42,7 +42,7 @@ enum-told-2 : tie.Need-enum-told-2
 enum-told-2 c = search needs
 
 rest-requires : tie.Need-rest-requires
-rest-requires c κs = search needs
+rest-requires c κs = tt
 
 pass-requires : tie.Need-pass-requires
 pass-requires c κs = search needs
@@ -59,7 +59,7 @@ enum-known-what-2 : tie.Need-enum-known-what-2
 enum-known-what-2 c = search needs
 
 rest-requires-2 : tie.Need-rest-requires-2
-rest-requires-2 c κs = search needs
+rest-requires-2 c κs = tt
 
 keep-requires : tie.Need-keep-requires
 keep-requires c κs = (possible (c .before .before .before .before .before) (c .before .before .before .what2 .given .1), search needs)
@@ -74,7 +74,7 @@ enum-told-3 : tie.Need-enum-told-3
 enum-told-3 c = search needs
 
 rest-requires-3 : tie.Need-rest-requires-3
-rest-requires-3 c κs = search needs
+rest-requires-3 c κs = tt
 
 noise-requires : tie.Need-noise-requires
 noise-requires c κs =

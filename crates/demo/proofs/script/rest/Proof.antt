@@ -4,14 +4,14 @@ use Prim.Native.Nat.{_-_}
 use denote.Ref.{now}
 use lib.ListN.{length, drop, length-drop, drop-of-length-le}
 use lib.Seq.{take-all}
-use mathlib.Core.Path.{sym}
+use mathlib.Core.Path.{refl, sym}
 use native.Mathlib.Omega.{arith}
 use borrow.Author.Needs.{needs}
 use Rattle.demo.proofs.script.rest.Statement.{statement}
 use Rattle.demo.proofs.script.rest.Tie as tie
 
 slice-aggregate-result : tie.Need-slice-aggregate-result
-slice-aggregate-result c = search needs
+slice-aggregate-result c = refl
 
 returns : tie.Need-returns
 returns c =

@@ -1,6 +1,6 @@
 -- `kasumi::schedule::word` meets its contract: two octets of the key make the word.
 -- Assumes nothing.
-use Prim.Native.Nat.{ℕ, _+_, _-_, _*_, _%_}
+use Prim.Native.Nat.{_+_, _-_, _*_, _%_}
 use borrow.Author.Needs.{needs}
 use mathlib.Core.Path.{refl}
 use native.Mathlib.Omega.{arith}

@@ -7,7 +7,7 @@ use mathlib.Core.List.{_++_}
 use Prim.Native.Nat.{_-_, _%_}
 use denote.Ref.{now}
 use lib.ListN.{getD}
-use Rattle.milenage.proofs.Filling.{Filled, filled-none, filled-more, filled-all}
+use Rattle.octets.proofs.Filling.{Filled, filled-none, filled-more, filled-all}
 use Rattle.milenage.proofs.Octets.{in1-octets}
 use Rattle.milenage.proofs.strings.in1.Statement.{statement}
 use Rattle.milenage.proofs.strings.in1.Tie as tie

@@ -6,10 +6,10 @@ use mathlib.Core.List.{List}
 use Prim.Native.Nat.{ℕ}
 use denote.Ref.{now}
 use lib.ListN.{replicate}
+use Rattle.refusals.proofs.Within.{front-whole}
 use Rattle.octets.specs.Xor.{xored}
 use Rattle.aes.specs.Aes.{cipher, aes}
 use Rattle.milenage.specs.Milenage.{opcOf}
-use Rattle.milenage.proofs.Parts.{front-whole}
 use Rattle.milenage.proofs.strings.opc.Statement.{statement}
 use Rattle.milenage.proofs.strings.opc.Tie as tie
 

@@ -8,8 +8,8 @@ use Prim.Native.Nat.{ℕ, _+_, _-_, _/_, _%_}
 use mathlib.Core.Path.{_≡_, refl}
 use denote.Ref.{now}
 use Rattle.octets.specs.Bits.{bitOf, part, octet, size, stored}
+use Rattle.octets.proofs.Filling.{Filled, filled-none, filled-more, filled-all}
 use Rattle.milenage.specs.Milenage.{turned}
-use Rattle.milenage.proofs.Filling.{Filled, filled-none, filled-more, filled-all}
 use Rattle.milenage.proofs.Octets.{turned-octet}
 use Rattle.milenage.proofs.strings.turn.Statement.{statement}
 use Rattle.milenage.proofs.strings.turn.Tie as tie

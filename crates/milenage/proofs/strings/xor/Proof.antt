@@ -10,7 +10,7 @@ use lib.Bits.{bitXor}
 use lib.ListN.{getD}
 use Rattle.octets.specs.Bits.{listed}
 use Rattle.octets.specs.Xor.{xored}
-use Rattle.milenage.proofs.Filling.{Filled, filled-none, filled-more, filled-all}
+use Rattle.octets.proofs.Filling.{Filled, filled-none, filled-more, filled-all}
 use Rattle.milenage.proofs.strings.xor.Statement.{statement}
 use Rattle.milenage.proofs.strings.xor.Tie as tie
 

@@ -11,6 +11,7 @@ use denote.Ref.{now}
 use lib.Bits.{bitXor, xor-lt}
 use lib.Dec.{lit<}
 use lib.ListN.{length, getD, replicate, List·getD-eq-default}
+use Rattle.octets.specs.Octets.{AreOctets}
 use Rattle.octets.specs.Xor.{xored}
 use Rattle.octets.proofs.Listed.{getD-listed}
 use Rattle.octets.proofs.Xored.{length-xored}
@@ -37,7 +38,7 @@ modifier-octets (suc n) zero = lit< tt
 modifier-octets (suc n) (suc i) = modifier-octets n i
 
 -- the key xor KM is octets, as the key is
-modified-octets : (key : List ℕ) → ((i : ℕ) → getD key i 0 < 256) → (i : ℕ) → getD (xored key modifier) i 0 < 256
+modified-octets : (key : List ℕ) → AreOctets key → AreOctets (xored key modifier)
 unfolding xored modifier
 modified-octets key each i =
     elim (decLt i (length key)) [

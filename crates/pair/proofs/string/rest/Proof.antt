@@ -10,8 +10,7 @@ use lib.ListN.{replicate}
 use Rattle.octets.specs.Bits.{bitOf, size}
 use Rattle.octets.proofs.Cutting.{cut-done}
 use Rattle.octets.proofs.Number.{number-ext}
-use Rattle.octets.proofs.Stored.{bitOf-lt, front-stored}
-use Rattle.pair.proofs.Padded.{zeros-after}
+use Rattle.octets.proofs.Stored.{bitOf-lt, front-stored, zeros-after}
 use Rattle.pair.proofs.string.rest.Statement.{statement}
 use Rattle.pair.proofs.string.rest.Tie as tie
 

@@ -10,10 +10,11 @@ use mathlib.Core.List.{List, [], _∷_}
 use mathlib.Core.Path.{_≡_, sym, subst, _∙_}
 use native.Mathlib.Omega.{arith}
 use Rattle.refusals.specs.Call.{Answered}
+use Rattle.refusals.proofs.Within.{front-whole}
 use Rattle.lines.specs.Digits.{valueOf, isNumber, hexadecimalCall}
 use Rattle.lines.specs.Text.{hexOctets, octetsOfHexCall}
 use Rattle.lines.proofs.Digits.{number-digits}
-use Rattle.lines.proofs.Text.{hex-digits, front-whole}
+use Rattle.lines.proofs.Text.{hex-digits}
 use Rattle.lines.proofs.Callers.{number-taken, number-read, put-done, hex-fits, hex-read}
 use Rattle.stream.specs.Form.{mSize, mText, keyText, inputText, directionText, nothingAsked}
 use Rattle.stream.proofs.Parts.{Parts, nothing-asked, key-part, input-part, length-key, m-read, key-read, input-read, input-fits, asked-by-values}

@@ -1,8 +1,9 @@
 -- `stream::requests::hear` meets its contract: the tests of the room and of the octet pick the case.
 -- Assumes nothing.
 use mathlib.Core.Path.{ap}
+use Rattle.lines.specs.Hearing.{standing}
 use Rattle.lines.proofs.Calls.{hear-no-room, hear-feed, hear-other}
-use Rattle.stream.specs.Stream.{streamRules, standing}
+use Rattle.stream.specs.Stream.{streamRules}
 use borrow.Author.Needs.{needs}
 use Rattle.stream.proofs.requests.hear.Statement.{statement}
 use Rattle.stream.proofs.requests.hear.Tie as tie

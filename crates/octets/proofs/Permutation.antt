@@ -7,7 +7,7 @@ use mathlib.Core.List.{List}
 use lib.Dec.{T, ltb, eqb, eqb→eq, ltb→lt}
 use lib.ListN.{length, getD}
 use Rattle.refusals.proofs.Tests.{and-left, and-right, all, at-place}
-use Rattle.sboxes.specs.Permutation.{Permutes}
+use Rattle.octets.specs.Permutation.{Permutes}
 
 -- an entry is below n, and the other table takes it back to its place
 abbrev pub back-within : ℕ → List ℕ → ℕ → ℕ → Bool

@@ -5,14 +5,15 @@ use native.Mathlib.Omega.{arith}
 use mathlib.Core.Path.{_≡_, refl, sym, ap, ap₂, _∙_}
 use mathlib.Core.List.{List, _++_}
 use lib.Bits.{bitXor, xor-block}
-use lib.ListN.{length, getD, take, drop, List·getD-append}
+use lib.ListN.{length, take, drop, List·getD-append}
 use lib.Seq.{getD-take, length-take-le}
 use Rattle.refusals.specs.Call.{Answered, front}
 use Rattle.octets.specs.Bits.{bitOf, part, number, octet, listed, size, stored}
+use Rattle.octets.specs.Octets.{AreOctets}
 use Rattle.octets.specs.Xor.{xored, xorCall}
 use Rattle.octets.proofs.Listed.{listed-ext}
 use Rattle.octets.proofs.Stored.{part-lt, bitOf-lt, octet-bitOf, length-stored, getD-stored}
 use Rattle.octets.proofs.Xored.{length-xored, xor-done}
 
 -- the number that the xor of bits writes is the xor of the numbers
 pub number-xor : (f g : ℕ → ℕ) (n : ℕ) → ((j : ℕ) → f j < 2) → ((j : ℕ) → g j < 2) → number (λ j. bitXor (f j) (g j)) n ≡ bitXor (number f n) (number g n)
@@ -27,7 +28,7 @@ octet-xor f g k bits bits′ = number-xor (λ j. f (k * 8 + j)) (λ j. g (k * 8 
 
 -- the first octets of a message xor those that hold n bits, octet by octet
 pub xored-octets : (message : List ℕ) (f : ℕ → ℕ) (n : ℕ) (rest : List ℕ)
-    → ((i : ℕ) → getD message i 0 < 256) → ((j : ℕ) → f j < 2) → size n ≤ length message
+    → AreOctets message → ((j : ℕ) → f j < 2) → size n ≤ length message
     → xored (take (size n) message) (stored f 0 n ++ rest) ≡ listed (octet (λ j. bitXor (bitOf message j) (part f 0 n j))) (size n)
 unfolding xored
 xored-octets message f n rest each bits enough =
@@ -42,7 +43,7 @@ xored-octets message f n rest each bits enough =
 -- so an xor of these, with room for it, puts the octets of the xored bits, but that the spare bits of the last are the message's own
 pub xor-put : (message : List ℕ) (f : ℕ → ℕ) (n count : ℕ) (rest stream before : List ℕ) {refusal : ℕ} {numbers after : List ℕ}
     → Answered (xorCall (take count message) stream before) refusal numbers after → count ≡ size n → stream ≡ stored f 0 n ++ rest
-    → ((i : ℕ) → getD message i 0 < 256) → ((j : ℕ) → f j < 2) → size n ≤ length message → size n ≤ length before
+    → AreOctets message → ((j : ℕ) → f j < 2) → size n ≤ length message → size n ≤ length before
     → after ≡ listed (octet (λ j. bitXor (bitOf message j) (part f 0 n j))) (size n) ++ drop (size n) before
 unfolding front
 xor-put message f n count rest stream before answered all is each bits enough room =
