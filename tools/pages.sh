@@ -49,7 +49,7 @@ done
 # are made of has none.
 library=$(for source in crates/*/src/*.rt; do
     crate=${source#crates/} crate=${crate%%/*}
-    [ "$crate" = lines ] || sed -nE "s/^ *pub fn ([a-z0-9_]+).*/$crate::\1/p" "$source"
+    case $crate in lines | script) ;; *) sed -nE "s/^ *pub fn ([a-z0-9_]+).*/$crate::\1/p" "$source" ;; esac
 done | sort)
 line_of() {
     local name=${1##*::}

@@ -12,6 +12,7 @@ use Rattle.refusals.specs.Refusal.{first, rowAt}
 use Rattle.refusals.specs.Call.{Answered}
 use Rattle.refusals.proofs.Calls.{determined, answered-done, refused-zeros}
 use Rattle.refusals.proofs.Tests.{by-test}
+use Rattle.script.specs.Quoted.{quoted}
 use Rattle.keystreams.specs.Key.{isKey}
 use Rattle.numbering.specs.Numbering.{width, candidateOrder}
 use Rattle.frames.specs.Frame.{payloadOf, lookOrder}
@@ -20,7 +21,6 @@ use Rattle.sender.specs.declared.Sender.{Sender}
 use Rattle.sender.specs.Sender.{Sealing, newSender, openSenderCall, sealOrder, sealCall}
 use Rattle.receiver.specs.declared.Receiver.{Receiver}
 use Rattle.receiver.specs.Receiver.{Opening, newReceiver, openReceiverCall, openOrder, openCall}
-use Rattle.demo.specs.Words.{quoted}
 use Rattle.demo.specs.Ends.{exampleKey, exampleLink, frameRoom, phoneAnswer, phoneAfter}
 
 -- of two numbers the second

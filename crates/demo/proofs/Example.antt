@@ -8,15 +8,16 @@ use Rattle.refusals.specs.Call.{outcome}
 use Rattle.lines.specs.Digits.{within, digitValue, allDigits, valueFrom, valueOf, isNumber}
 use Rattle.lines.specs.Lines.{linesFrom, linesOf, answers}
 use Rattle.lines.specs.Text.{glyphOf, decimalDigits, decimalText}
+use Rattle.script.specs.Quoted.{quoted}
+use Rattle.script.specs.Script.{allPrintable, begins, countOf, placeOf, askedLose, askedGive, askedCommand, asked}
 use Rattle.numbering.specs.Numbering.{end, mark, marksOf, canArise}
 use Rattle.frames.specs.Frame.{pairAt, isWhole, lookOrder}
 use Rattle.link.specs.Link.{isService, isDirection, linkCanArise, linkOf, isPayload}
 use Rattle.sender.specs.Sender.{newSender, afterFrame, senderCanArise, sealOrder}
 use Rattle.receiver.specs.Receiver.{newReceiver, receiverCanArise, openOrder}
-use Rattle.demo.specs.Words.{quoted, refusalWords, refusalText, whyWords}
+use Rattle.demo.specs.Words.{refusalWords, refusalText, whyWords}
 use Rattle.demo.specs.Columns.{column, phoneText, whyText, numberText, answerText, shownText, textColumn, cellColumns, silentColumns}
 use Rattle.demo.specs.Ends.{exampleLink, frameRoom, phoneAfter, emptyShelf, frameKept}
-use Rattle.demo.specs.Script.{allPrintable, begins, countOf, placeOf, askedLose, askedGive, askedCommand, asked}
 use Rattle.demo.specs.Acts.{handedColumns, losing, giving, nothing, obeyed}
 use Rattle.demo.specs.Play.{answer, after, newStage, heading, demoOutput}
 

@@ -14,6 +14,9 @@ use Rattle.lines.specs.Hearing.{tooLong}
 use Rattle.lines.proofs.Callers.{put-done, hex-fits, hex-read}
 use Rattle.lines.proofs.Placed.{added-more, at-front-added, written-text}
 use Rattle.lines.proofs.Text.{length-hexOctets}
+use Rattle.script.specs.declared.kinds.Why.the-variants.{Long, Hex}
+use Rattle.script.specs.Quoted.{quoted}
+use Rattle.script.proofs.Lines.{is-long}
 use Rattle.numbering.specs.Numbering.{width}
 use Rattle.sender.specs.declared.Sender.{Sender}
 use Rattle.sender.specs.Sender.{Sealing}
@@ -22,12 +25,9 @@ use Rattle.receiver.specs.Receiver.{Opening, openCall}
 use Rattle.demo.specs.declared.play.Shelf.{Shelf}
 use Rattle.demo.specs.declared.play.Stage.{Stage}
 use Rattle.demo.specs.declared.acts.Stepped.{Stepped}
-use Rattle.demo.specs.declared.script.Why.the-variants.{Long, Hex}
-use Rattle.demo.specs.Words.{quoted}
 use Rattle.demo.specs.Columns.{column, phoneText, cellColumns, silentColumns}
 use Rattle.demo.specs.Ends.{frameRoom, numberIn, phoneAnswer, sealedFrame, phoneAfter, cellAnswer, openedText, frameKept, shelved}
 use Rattle.demo.specs.Acts.{Step, handedColumns, passing, losing, keeping, giving, handing, noising, nothing, doneFor, obeyed, HandCall, StepCall}
-use Rattle.demo.proofs.Lines.{is-long}
 
 -- ---- columns joined
 

@@ -13,9 +13,10 @@ use lib.Seq.{take-at, drop-at, drop-drop}
 use Rattle.refusals.proofs.Tests.{and-left, and-right}
 use Rattle.lines.specs.Text.{decimalText}
 use Rattle.lines.proofs.Digits.{within-both, within-above}
-use Rattle.demo.specs.declared.script.Why.{Why}
-use Rattle.demo.specs.declared.script.Why.the-variants.{Long, Empty, Octet, Command, Count, Place, Hex}
-use Rattle.demo.specs.Words.{quoted, joined, refusalWords, refusalText, whyWords}
+use Rattle.script.specs.declared.kinds.Why.{Why}
+use Rattle.script.specs.declared.kinds.Why.the-variants.{Long, Empty, Octet, Command, Count, Place, Hex}
+use Rattle.script.specs.Quoted.{quoted}
+use Rattle.demo.specs.Words.{joined, refusalWords, refusalText, whyWords}
 use Rattle.demo.specs.Columns.{whyRow, whyText}
 
 -- every row has ten octets

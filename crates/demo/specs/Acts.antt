@@ -6,20 +6,20 @@ use mathlib.Core.List.{List, _++_}
 use lib.Dec.{eqb}
 use lib.ListN.{drop}
 use Rattle.lines.specs.Text.{isHex, hexOctets, decimalText, AtFront, Added}
+use Rattle.script.specs.declared.kinds.Asked.{Asked}
+use Rattle.script.specs.declared.kinds.Asked.the-variants.{Remark, Pass, Lose, Keep, Give, Noise, Bad}
+use Rattle.script.specs.declared.kinds.Why.{Why}
+use Rattle.script.specs.declared.kinds.Why.the-variants.{Hex}
+use Rattle.script.specs.Quoted.{quoted}
+use Rattle.script.specs.Script.{asked}
 use Rattle.numbering.specs.Numbering.{width}
 use Rattle.receiver.specs.declared.Receiver.{Receiver}
 use Rattle.receiver.specs.Receiver.{openCall}
 use Rattle.demo.specs.declared.play.Stage.{Stage}
 use Rattle.demo.specs.declared.acts.Handed.{Handed}
 use Rattle.demo.specs.declared.acts.Stepped.{Stepped}
-use Rattle.demo.specs.declared.script.Asked.{Asked}
-use Rattle.demo.specs.declared.script.Asked.the-variants.{Remark, Pass, Lose, Keep, Give, Noise, Bad}
-use Rattle.demo.specs.declared.script.Why.{Why}
-use Rattle.demo.specs.declared.script.Why.the-variants.{Hex}
-use Rattle.demo.specs.Words.{quoted}
 use Rattle.demo.specs.Columns.{column, phoneText, whyText, cellColumns, silentColumns}
 use Rattle.demo.specs.Ends.{frameRoom, numberIn, phoneAnswer, sealedFrame, phoneAfter, cellAnswer, openedText, frameKept, shelved}
-use Rattle.demo.specs.Script.{asked}
 
 -- what is done for a line: the stage afterwards, and the answer
 pub record Step : Type 0 where

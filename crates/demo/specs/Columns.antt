@@ -6,9 +6,10 @@ use lib.Dec.{eqb}
 use lib.ListN.{length, getD, drop, replicate}
 use Rattle.lines.specs.Digits.{within}
 use Rattle.lines.specs.Text.{decimalText}
-use Rattle.demo.specs.declared.script.Why.{Why}
-use Rattle.demo.specs.declared.script.Why.the-variants.{Long, Empty, Octet, Command, Count, Place, Hex}
-use Rattle.demo.specs.Words.{quoted, refusalText, whyWords}
+use Rattle.script.specs.declared.kinds.Why.{Why}
+use Rattle.script.specs.declared.kinds.Why.the-variants.{Long, Empty, Octet, Command, Count, Place, Hex}
+use Rattle.script.specs.Quoted.{quoted}
+use Rattle.demo.specs.Words.{refusalText, whyWords}
 
 -- a text at the left of a column, which is eleven octets wide and filled up with spaces (32): ten digits and a space have room
 unfoldable pub column : List ℕ → List ℕ

@@ -4,6 +4,7 @@ use Prim.Native.Nat.{ℕ, zero, suc, _+_, _*_, min}
 use mathlib.Core.List.{List, [], _∷_, _++_}
 use lib.ListN.{length, getD, take, drop, set, replicate}
 use Rattle.refusals.specs.Call.{Outcome, outcome}
+use Rattle.script.specs.Quoted.{quoted}
 use Rattle.numbering.specs.Numbering.{width}
 use Rattle.link.specs.declared.Link.{Link}
 use Rattle.link.specs.Link.{linkOf}
@@ -12,7 +13,6 @@ use Rattle.sender.specs.Sender.{Sealing, sealCall}
 use Rattle.receiver.specs.declared.Receiver.{Receiver}
 use Rattle.receiver.specs.Receiver.{Opening, openCall}
 use Rattle.demo.specs.declared.play.Shelf.{Shelf}
-use Rattle.demo.specs.Words.{quoted}
 
 -- the key of the demonstration is an example that everybody may know: it keeps nothing secret
 unfoldable pub exampleKey : List ℕ

@@ -2,5 +2,4 @@ pub mod Acts
 pub mod Columns
 pub mod Ends
 pub mod Play
-pub mod Script
 pub mod Words

@@ -4,11 +4,11 @@ use Prim.Native.Nat.{ℕ}
 use mathlib.Core.List.{List, _++_}
 use Rattle.lines.specs.Hearing.{silence, Rules, Standing}
 use Rattle.lines.specs.Lines.{linesOf, answers}
+use Rattle.script.specs.Quoted.{quoted}
 use Rattle.sender.specs.Sender.{newSender}
 use Rattle.receiver.specs.Receiver.{newReceiver}
 use Rattle.demo.specs.declared.play.Play.{Play}
 use Rattle.demo.specs.declared.play.Stage.{Stage}
-use Rattle.demo.specs.Words.{quoted}
 use Rattle.demo.specs.Columns.{column}
 use Rattle.demo.specs.Ends.{exampleLink, emptyShelf}
 use Rattle.demo.specs.Acts.{obeyed}

@@ -1,17 +1,12 @@
--- The words of an answer: a quoted text as octets, and the tables of words. The one for refusals has a row for each. Assumes nothing.
+-- The words of an answer: the tables of words. The one for refusals has a row for each. Assumes nothing.
 use Prim.Native.Nat.{ℕ, _-_}
-use Prim.Native.Char.{code}
-use Prim.Native.String.{String, [] as ended, _∷_ as _then_}
+use Prim.Native.String.{String}
 use mathlib.Core.Bool.{cond}
 use mathlib.Core.List.{List, [], _∷_, _++_}
 use lib.ListN.{length, getD}
 use Rattle.lines.specs.Digits.{within}
 use Rattle.lines.specs.Text.{decimalText}
-
--- the octets of a quoted text, one for each letter
-abbrev pub quoted : String → List ℕ
-quoted ended = []
-quoted (letter then rest) = code letter ∷ quoted rest
+use Rattle.script.specs.Quoted.{quoted}
 
 -- the rows of a table, one after the other
 abbrev pub joined : List String → List ℕ

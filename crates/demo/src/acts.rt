@@ -2,15 +2,17 @@
 ghost use mathlib.Core.Path.{_≡_};
 ghost use Prim.Native.Nat.{_*_, _≤_, _<_, min};
 ghost use lib.ListN.{length, drop, take};
-ghost use Rattle.demo.specs.Words.{quoted};
+ghost use Rattle.script.specs.Quoted.{quoted};
+ghost use Rattle.script.specs.Script.{restOf};
 ghost use Rattle.demo.specs.Ends.{phoneAnswer, phoneAfter, shelved};
 ghost use Rattle.demo.specs.Play.{room};
-ghost use Rattle.demo.specs.Acts.{passing, losing, keeping, giving, noising, nothing as Acts·nothing, remarking, HandCall, StepCall};
+ghost use Rattle.demo.specs.Acts.{passing, losing, keeping, giving, noising, nothing as Acts·nothing, remarking, obeyed, HandCall, StepCall};
 use crate::columns;
 use crate::play::Shelf;
 use crate::play::Stage;
-use crate::script::Why;
 use receiver::Receiver;
+use script::Asked;
+use script::Why;
 use sender::Sender;
 
 // The stage after a line, and how many octets its answer has.
@@ -214,5 +216,32 @@ pub(crate) fn remark(stage: Stage, line: &[u8], output: &mut [u8]) -> Stepped
     Stepped {
         stage,
         written: end + 1,
+    }
+}
+
+// What stands from a place of the line on.
+fn rest(line: &[u8], from: usize) -> &[u8]
+    ensures { λ r. ⌜ now r ≡ restOf (now (line .entry)) from ⌝ }
+{
+    if line.len() < from {
+        return &line[..0];
+    }
+    &line[from..]
+}
+
+// Does what a line asks for, and answers it.
+pub(crate) fn obey(stage: Stage, line: &[u8], output: &mut [u8]) -> Stepped
+    requires { ⌜ room ≤ length (now output) ⌝ }
+    ensures { λ r. ⌜ StepCall (obeyed stage (now (line .entry))) (now (output .entry)) r (now (output .exit)) ⌝ }
+{
+    let what = script::asked(line);
+    match what {
+        Asked::Remark => remark(stage, line, output),
+        Asked::Pass => pass(stage, rest(line, 5), output),
+        Asked::Lose(count) => lose(stage, count, output),
+        Asked::Keep(k) => keep(stage, k, rest(line, 7), output),
+        Asked::Give(k) => give(stage, k, output),
+        Asked::Noise => noise(stage, rest(line, 6), output),
+        Asked::Bad(why) => nothing(stage, why, output),
     }
 }

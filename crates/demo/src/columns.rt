@@ -6,7 +6,7 @@ ghost use lib.ListN.{length, take, drop, replicate};
 ghost use Rattle.lines.specs.Text.{Added, decimalText};
 ghost use Rattle.demo.specs.Words.{joined, refusalWords, refusalText};
 ghost use Rattle.demo.specs.Columns.{column, phoneText, numberText, answerText, shown as Columns·shown, shownText, textColumn, cellColumns, silentColumns, whyRow, whyText};
-use crate::script::Why;
+use script::Why;
 
 // How wide a column is; the box's column begins there.
 pub(crate) const WIDTH: usize = 11;

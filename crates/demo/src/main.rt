@@ -2,7 +2,6 @@
 mod acts;
 mod columns;
 mod play;
-mod script;
 
 ghost use mathlib.Core.Bool.{true};
 ghost use mathlib.Core.Path.{_≡_};

@@ -9,10 +9,9 @@ ghost use Rattle.demo.specs.Acts.{obeyed, StepCall};
 ghost use Rattle.demo.specs.Play.{room, heading as Play·heading, demoRules, standing, newPlay};
 use crate::acts;
 use crate::acts::Stepped;
-use crate::script;
-use crate::script::Why;
 use lines::Heard;
 use receiver::Receiver;
+use script::Why;
 use sender::Sender;
 
 // What ends a line.
@@ -86,7 +85,7 @@ fn obey_heard(stage: Stage, heard: Heard, output: &mut [u8]) -> Stepped
         return acts::nothing(stage, Why::Long, output);
     }
     let octets = heard.octets;
-    script::obey(stage, &octets[..count], output)
+    acts::obey(stage, &octets[..count], output)
 }
 
 // Hears one octet: a line feed has the line obeyed and begins a new one, any other octet is kept.

@@ -53,7 +53,7 @@ IsOrder Lent call = T (isOrder (call .order))
 orders : All (Always IsOrder) publicCalls
 unfolding cutOrder xorOrder kasumiOrder expandKeyOrder aesOrder kgcoreOrder keyOrder a5Order gea4Order f8Order f9Order opcOrder codeOrder resultOrder candidateOrder numberOrder lookOrder headerOrder linkOrder cipherOrder sealOrder openOrder digitsOrder roomOrder hexOrder
 orders =
-    tt ⊗ tt ⊗ tt ⊗ in4 ⊗ in3 ⊗ tt ⊗ in1 ⊗ tt ⊗ in2 ⊗ in1 ⊗ tt ⊗ in3 ⊗ in4 ⊗ in1 ⊗ in3 ⊗ in3 ⊗ in5 ⊗ in5 ⊗ in4 ⊗ in5 ⊗ in3 ⊗ in6 ⊗ in6 ⊗ in4 ⊗ in4 ⊗ in4 ⊗ in4 ⊗ in4 ⊗ tt ⊗ tt ⊗ in2 ⊗ tt ⊗ in1 ⊗ tt ⊗ in3 ⊗ tt ⊗ in4 ⊗ in4 ⊗ in4 ⊗ in3 ⊗ in4 ⊗ in3 ⊗ in1 ⊗ in1 ⊗ in2 ⊗ in2 ⊗ in2 ⊗ in2 ⊗ tt ⊗ tt ⊗ tt ⊗ tt
+    tt ⊗ tt ⊗ tt ⊗ in4 ⊗ in3 ⊗ tt ⊗ in1 ⊗ tt ⊗ in2 ⊗ in1 ⊗ tt ⊗ in3 ⊗ in4 ⊗ in1 ⊗ in3 ⊗ in3 ⊗ in5 ⊗ in5 ⊗ in4 ⊗ in5 ⊗ in3 ⊗ in6 ⊗ in6 ⊗ in4 ⊗ in4 ⊗ in4 ⊗ in4 ⊗ in4 ⊗ tt ⊗ tt ⊗ in2 ⊗ tt ⊗ in1 ⊗ tt ⊗ in3 ⊗ tt ⊗ in4 ⊗ in4 ⊗ in4 ⊗ in3 ⊗ in4 ⊗ in3 ⊗ in1 ⊗ in1 ⊗ in2 ⊗ in2 ⊗ in2 ⊗ in2 ⊗ tt ⊗ tt ⊗ tt ⊗ tt ⊗ tt
 
 pub all-answer : All (Always (λ Lent call. Answers call)) publicCalls
 all-answer = of-all (λ Lent call order. answers call order) publicCalls orders

@@ -24,6 +24,7 @@ use Rattle.receiver.specs.Receiver.{openReceiverCall, openCall}
 use Rattle.lines.specs.Digits.{decimalCall, hexadecimalCall}
 use Rattle.lines.specs.Text.{octetsOfHexCall, hexOfOctetsCall, decimalOfNumberCall, putTextCall}
 use Rattle.lines.specs.Hearing.{silence, tooLong, kept}
+use Rattle.script.specs.Script.{asked}
 
 -- the public calls, each after its name: a function that cannot be refused, or a call with so many inputs
 abbrev pub publicCalls : List PublicCall
@@ -129,4 +130,6 @@ publicCalls =
     -- lines::too_long
     function tooLong ∷
     -- lines::kept
-    function kept ∷ []
+    function kept ∷
+    -- script::asked
+    function asked ∷ []

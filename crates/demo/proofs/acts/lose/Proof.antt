@@ -3,8 +3,8 @@
 use mathlib.Core.Path.{refl}
 use native.Mathlib.Omega.{arith}
 use Rattle.refusals.proofs.Calls.{is-outcome}
+use Rattle.script.specs.Quoted.{quoted}
 use Rattle.sender.specs.Sender.{sealCall}
-use Rattle.demo.specs.Words.{quoted}
 use Rattle.demo.specs.Ends.{frameRoom}
 use Rattle.demo.proofs.Steps.{line-put, lost}
 use borrow.Author.Needs.{needs}

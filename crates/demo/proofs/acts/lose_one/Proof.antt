@@ -3,8 +3,8 @@
 use mathlib.Core.Path.{refl, ap}
 use Rattle.refusals.specs.Call.{Outcome}
 use Rattle.refusals.proofs.Calls.{is-outcome}
+use Rattle.script.specs.Quoted.{quoted}
 use Rattle.sender.specs.Sender.{Sealing, sealCall}
-use Rattle.demo.specs.Words.{quoted}
 use Rattle.demo.specs.Ends.{frameRoom}
 use Rattle.demo.proofs.acts.lose_one.Statement.{statement}
 use Rattle.demo.proofs.acts.lose_one.Tie as tie

@@ -3,8 +3,8 @@
 use Prim.Native.Nat.{ℕ, _-_, _≤_}
 use mathlib.Core.Path.{_≡_, ap, _∙_}
 use native.Mathlib.Omega.{arith}
+use Rattle.script.specs.Quoted.{quoted}
 use Rattle.sender.specs.declared.Sender.{Sender}
-use Rattle.demo.specs.Words.{quoted}
 use Rattle.demo.specs.Ends.{phoneAnswer, phoneAfter}
 use Rattle.demo.proofs.Ends.{phone-next, phone-none}
 use Rattle.demo.proofs.acts.lose_times.Statement.{statement}

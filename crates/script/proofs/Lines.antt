@@ -15,11 +15,11 @@ use Rattle.refusals.proofs.Tests.{by-test}
 use Rattle.lines.specs.Digits.{within, valueOf, isNumber, digitsCall, decimalCall}
 use Rattle.lines.proofs.Callers.{number-none, number-read, number-refused}
 use Rattle.lines.proofs.Digits.{within-both, within-below, within-above, within-to, from-place, number-below, number-size, number-digits}
-use Rattle.demo.specs.declared.script.Asked.{Asked}
-use Rattle.demo.specs.declared.script.Asked.the-variants.{Remark, Pass, Lose, Keep, Give, Noise, Bad}
-use Rattle.demo.specs.declared.script.Why.the-variants.{Long, Empty, Octet, Command, Count, Place}
-use Rattle.demo.specs.Words.{quoted}
-use Rattle.demo.specs.Script.{allPrintable, begins, countOf, placeOf, askedLose, askedKeep, askedGive, askedCommand, asked}
+use Rattle.script.specs.declared.kinds.Asked.{Asked}
+use Rattle.script.specs.declared.kinds.Asked.the-variants.{Remark, Pass, Lose, Keep, Give, Noise, Bad}
+use Rattle.script.specs.declared.kinds.Why.the-variants.{Long, Empty, Octet, Command, Count, Place}
+use Rattle.script.specs.Quoted.{quoted}
+use Rattle.script.specs.Script.{allPrintable, begins, countOf, placeOf, askedLose, askedKeep, askedGive, askedCommand, asked}
 
 -- ---- the words of a line
 

@@ -1,14 +1,14 @@
--- `demo::script::asked_by` meets its contract: each test decides.
+-- `script::asked` meets its contract: each test decides.
 -- Assumes nothing.
 use borrow.Author.Tests.{not-true, not-false}
 use denote.Ref.{now}
 use mathlib.Core.Bool.{true}
 use mathlib.Core.Path.{_≡_, sym, _∙_}
-use Rattle.demo.specs.Script.{allPrintable}
-use Rattle.demo.proofs.Lines.{begins-hash, begins-other, is-long, is-empty, is-octet, is-remark, is-command}
+use Rattle.script.specs.Script.{allPrintable}
+use Rattle.script.proofs.Lines.{begins-hash, begins-other, is-long, is-empty, is-octet, is-remark, is-command}
 use borrow.Author.Needs.{needs}
-use Rattle.demo.proofs.script.asked_by.Statement.{statement}
-use Rattle.demo.proofs.script.asked_by.Tie as tie
+use Rattle.script.proofs.asked.Statement.{statement}
+use Rattle.script.proofs.asked.Tie as tie
 
 printable : (c : tie.Else3) → allPrintable (now (c .before .before .before .before .before .args .line)) ≡ true
 printable c = sym (c .before .all-printable .ensures) ∙ not-false _ (c .if3 .left)
@@ -44,8 +44,8 @@ returns-5 c =
     c .asked-command .ensures
     ∙ is-command line (at .before .before .before .if1 .left) (at .before .before .if2 .left) (printable at) (begins-other line (at .before .before .if2 .left) (c .before .if4 .left))
 
-pub asked-by-spec : {M : Type 1} → statement M
-asked-by-spec =
+pub asked-spec : {M : Type 1} → statement M
+asked-spec =
     tie.close
     (tie.spec
     returns

@@ -1,10 +1,10 @@
--- `demo::script::asked_give` meets its contract: the tests of the length and of the place decide.
+-- `script::asked_give` meets its contract: the tests of the length and of the place decide.
 -- Assumes nothing.
 use denote.Ref.{now}
-use Rattle.demo.proofs.Lines.{give-nowhere, give-there, give-other}
+use Rattle.script.proofs.Lines.{give-nowhere, give-there, give-other}
 use borrow.Author.Needs.{needs}
-use Rattle.demo.proofs.script.asked_give.Statement.{statement}
-use Rattle.demo.proofs.script.asked_give.Tie as tie
+use Rattle.script.proofs.asked_give.Statement.{statement}
+use Rattle.script.proofs.asked_give.Tie as tie
 
 shared-slice-read-place-of : tie.Need-shared-slice-read-place-of
 shared-slice-read-place-of c = search needs

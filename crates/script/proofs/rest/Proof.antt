@@ -1,4 +1,4 @@
--- `demo::script::rest` meets its contract: past the end there is nothing.
+-- `script::rest` meets its contract: past the end there is nothing.
 -- Assumes nothing.
 use Prim.Native.Nat.{_-_}
 use denote.Ref.{now}
@@ -7,8 +7,8 @@ use lib.Seq.{take-all}
 use mathlib.Core.Path.{refl, sym}
 use native.Mathlib.Omega.{arith}
 use borrow.Author.Needs.{needs}
-use Rattle.demo.proofs.script.rest.Statement.{statement}
-use Rattle.demo.proofs.script.rest.Tie as tie
+use Rattle.script.proofs.rest.Statement.{statement}
+use Rattle.script.proofs.rest.Tie as tie
 
 slice-aggregate-result : tie.Need-slice-aggregate-result
 slice-aggregate-result c = refl

@@ -1,38 +1,13 @@
-// The lines of a script: what each asks for.
+// The lines of a script for the bench: what each asks for.
+pub mod kinds;
+
 ghost use mathlib.Core.Path.{_≡_};
-ghost use Prim.Native.Nat.{_≤_, _<_};
-ghost use lib.ListN.{length, drop};
-ghost use Rattle.demo.specs.Play.{room};
-ghost use Rattle.demo.specs.Script.{allPrintable, begins as Script·begins, countOf, placeOf, askedLose, askedKeep, askedGive, askedCommand, asked};
-ghost use Rattle.demo.specs.Acts.{obeyed, StepCall};
-use crate::acts;
-use crate::acts::Stepped;
-use crate::play::Stage;
+ghost use Rattle.script.specs.Script.{allPrintable, begins as Script·begins, restOf, countOf, placeOf, askedLose, askedKeep, askedGive, askedCommand, asked as Script·asked};
+pub use kinds::Asked;
+pub use kinds::Why;
 
 // The most octets of a line of a script.
 const LONGEST: usize = 48;
-
-// Why a line is bad.
-pub(crate) enum Why {
-    Long,
-    Empty,
-    Octet,
-    Command,
-    Count,
-    Place,
-    Hex,
-}
-
-// What a line asks for.
-pub(crate) enum Asked {
-    Remark,
-    Pass,
-    Lose(u32),
-    Keep(usize),
-    Give(usize),
-    Noise,
-    Bad(Why),
-}
 
 // Whether each octet of a text is printable ASCII.
 fn all_printable(text: &[u8]) -> bool
@@ -70,7 +45,7 @@ fn begins(word: &[u8], line: &[u8]) -> bool
 
 // What stands from a place of the line on.
 fn rest(line: &[u8], from: usize) -> &[u8]
-    ensures { λ r. ⌜ now r ≡ drop from (now (line .entry)) ⌝ }
+    ensures { λ r. ⌜ now r ≡ restOf (now (line .entry)) from ⌝ }
 {
     if line.len() < from {
         return &line[..0];
@@ -165,8 +140,8 @@ fn asked_command(line: &[u8]) -> Asked
 }
 
 // What a line asks for.
-fn asked_by(line: &[u8]) -> Asked
-    ensures { λ r. ⌜ r ≡ asked (now (line .entry)) ⌝ }
+pub fn asked(line: &[u8]) -> Asked
+    ensures { λ r. ⌜ r ≡ Script·asked (now (line .entry)) ⌝ }
 {
     if LONGEST < line.len() {
         return Asked::Bad(Why::Long);
@@ -181,21 +156,4 @@ fn asked_by(line: &[u8]) -> Asked
         return Asked::Remark;
     }
     asked_command(line)
-}
-
-// Does what a line asks for, and answers it.
-pub(crate) fn obey(stage: Stage, line: &[u8], output: &mut [u8]) -> Stepped
-    requires { ⌜ room ≤ length (now output) ⌝ }
-    ensures { λ r. ⌜ StepCall (obeyed stage (now (line .entry))) (now (output .entry)) r (now (output .exit)) ⌝ }
-{
-    let what = asked_by(line);
-    match what {
-        Asked::Remark => acts::remark(stage, line, output),
-        Asked::Pass => acts::pass(stage, rest(line, 5), output),
-        Asked::Lose(count) => acts::lose(stage, count, output),
-        Asked::Keep(k) => acts::keep(stage, k, rest(line, 7), output),
-        Asked::Give(k) => acts::give(stage, k, output),
-        Asked::Noise => acts::noise(stage, rest(line, 6), output),
-        Asked::Bad(why) => acts::nothing(stage, why, output),
-    }
 }

@@ -1,4 +1,4 @@
--- `demo::script::obey` meets its contract: what the line asks for is done.
+-- `demo::acts::obey` meets its contract: what the line asks for is done.
 -- Assumes nothing.
 use Prim.Native.Nat.{ℕ}
 use denote.Ref.{now}
@@ -6,31 +6,31 @@ use lib.ListN.{length, length-drop}
 use mathlib.Core.List.{List}
 use mathlib.Core.Path.{_≡_, sym, ap, subst, _∙_}
 use native.Mathlib.Omega.{arith}
+use Rattle.script.specs.declared.kinds.Asked.{Asked}
+use Rattle.script.proofs.Lines.{Possible, asked-possible}
 use Rattle.demo.specs.declared.play.Stage.{Stage}
-use Rattle.demo.specs.declared.script.Asked.{Asked}
 use Rattle.demo.specs.Acts.{passing, keeping, noising, doneFor, obeyed}
-use Rattle.demo.proofs.Lines.{Possible, asked-possible}
 use Rattle.demo.proofs.Steps.{stepped-as}
 use borrow.Author.Needs.{needs}
-use Rattle.demo.proofs.script.obey.Statement.{statement}
-use Rattle.demo.proofs.script.obey.Tie as tie
+use Rattle.demo.proofs.acts.obey.Statement.{statement}
+use Rattle.demo.proofs.acts.obey.Tie as tie
 
-abbrev stage : tie.After-asked-by → Stage
+abbrev stage : tie.After-asked → Stage
 stage c = c .before .before .before .args .stage
 
-abbrev line : tie.After-asked-by → List ℕ
+abbrev line : tie.After-asked → List ℕ
 line c = now (c .before .before .before .args .line)
 
 -- what the line asks for is possible, and is what is to be done
-possible : (c : tie.After-asked-by) {what : Asked} → c .asked-by .result ≡ what → Possible (line c) what
-possible c told = subst (Possible (line c)) (sym (c .asked-by .ensures) ∙ told) (asked-possible (line c))
+possible : (c : tie.After-asked) {what : Asked} → c .asked .result ≡ what → Possible (line c) what
+possible c told = subst (Possible (line c)) (sym (c .asked .ensures) ∙ told) (asked-possible (line c))
 
-step : (c : tie.After-asked-by) {what : Asked} → c .asked-by .result ≡ what → doneFor (stage c) (line c) what ≡ obeyed (stage c) (line c)
+step : (c : tie.After-asked) {what : Asked} → c .asked .result ≡ what → doneFor (stage c) (line c) what ≡ obeyed (stage c) (line c)
 unfolding obeyed
-step c told = ap (doneFor (stage c) (line c)) (sym told ∙ c .asked-by .ensures)
+step c told = ap (doneFor (stage c) (line c)) (sym told ∙ c .asked .ensures)
 
-asked-by-requires : tie.Need-asked-by-requires
-asked-by-requires c κs = tt
+asked-requires : tie.Need-asked-requires
+asked-requires c κs = tt
 
 enum-told : tie.Need-enum-told
 enum-told c = search needs
@@ -78,7 +78,7 @@ rest-requires-3 c κs = tt
 
 noise-requires : tie.Need-noise-requires
 noise-requires c κs =
-    let at : tie.After-asked-by = c .before .before .before .before in
+    let at : tie.After-asked = c .before .before .before .before in
     (omega (arith, possible at (c .before .before .enum-told3 .given .1), ap length (c .before .rest3 .ensures) ∙ length-drop 6 (line at)), search needs)
 
 enum-known-what-4 : tie.Need-enum-known-what-4
@@ -98,7 +98,7 @@ same-length-2 c = search needs
 
 returns-2 : tie.Need-returns-2
 returns-2 c =
-    let at : tie.After-asked-by = c .before .before .before .before .before .before .before in
+    let at : tie.After-asked = c .before .before .before .before .before .before .before in
     stepped-as (ap (passing (stage at)) (c .before .before .before .before .rest .ensures) ∙ step at (c .before .before .before .before .before .enum-told2 .given .1)) (c .before .before .pass .ensures)
 
 same-length-3 : tie.Need-same-length-3
@@ -112,7 +112,7 @@ same-length-4 c = search needs
 
 returns-4 : tie.Need-returns-4
 returns-4 c =
-    let at : tie.After-asked-by = c .before .before .before .before .before .before .before .before in
+    let at : tie.After-asked = c .before .before .before .before .before .before .before .before in
     stepped-as (ap (keeping (stage at) (c .before .before .before .before .before .before .what2 .given .0 .0)) (c .before .before .before .before .rest2 .ensures) ∙ step at (c .before .before .before .before .before .before .what2 .given .1)) (c .before .before .keep .ensures)
 
 same-length-5 : tie.Need-same-length-5
@@ -126,7 +126,7 @@ same-length-6 c = search needs
 
 returns-6 : tie.Need-returns-6
 returns-6 c =
-    let at : tie.After-asked-by = c .before .before .before .before .before .before .before in
+    let at : tie.After-asked = c .before .before .before .before .before .before .before in
     stepped-as (ap (noising (stage at)) (c .before .before .before .before .rest3 .ensures) ∙ step at (c .before .before .before .before .before .enum-told3 .given .1)) (c .before .before .noise .ensures)
 
 same-length-7 : tie.Need-same-length-7
@@ -139,7 +139,7 @@ pub obey-spec : {M : Type 1} → statement M
 obey-spec =
     tie.close
     (tie.spec
-    asked-by-requires
+    asked-requires
     enum-told
     remark-requires
     enum-told-2

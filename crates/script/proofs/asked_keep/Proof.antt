@@ -1,10 +1,10 @@
--- `demo::script::asked_keep` meets its contract: the tests of the length, of the place and of the space decide.
+-- `script::asked_keep` meets its contract: the tests of the length, of the place and of the space decide.
 -- Assumes nothing.
 use denote.Ref.{now}
-use Rattle.demo.proofs.Lines.{keep-short, keep-nowhere, keep-there, keep-unspaced}
+use Rattle.script.proofs.Lines.{keep-short, keep-nowhere, keep-there, keep-unspaced}
 use borrow.Author.Needs.{needs}
-use Rattle.demo.proofs.script.asked_keep.Statement.{statement}
-use Rattle.demo.proofs.script.asked_keep.Tie as tie
+use Rattle.script.proofs.asked_keep.Statement.{statement}
+use Rattle.script.proofs.asked_keep.Tie as tie
 
 returns : tie.Need-returns
 returns c = keep-short (now (c .before .before .args .rest)) (c .if1 .taken)

@@ -1,10 +1,10 @@
--- `demo::script::count_of` meets its contract: a number of at most three digits.
+-- `script::count_of` meets its contract: a number of at most three digits.
 -- Assumes nothing.
 use denote.Ref.{now}
 use native.Mathlib.Omega.{arith}
-use Rattle.demo.proofs.Lines.{count-long, count-below, count-read}
-use Rattle.demo.proofs.script.count_of.Statement.{statement}
-use Rattle.demo.proofs.script.count_of.Tie as tie
+use Rattle.script.proofs.Lines.{count-long, count-below, count-read}
+use Rattle.script.proofs.count_of.Statement.{statement}
+use Rattle.script.proofs.count_of.Tie as tie
 
 returns : tie.Need-returns
 returns c = count-long _ (c .if1 .taken)

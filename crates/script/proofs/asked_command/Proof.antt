@@ -1,15 +1,15 @@
--- `demo::script::asked_command` meets its contract: the first word decides.
+-- `script::asked_command` meets its contract: the first word decides.
 -- Assumes nothing.
 use Prim.Native.Nat.{ℕ}
 use denote.Ref.{now}
 use mathlib.Core.Bool.{false}
 use mathlib.Core.List.{List}
 use mathlib.Core.Path.{_≡_, refl, sym, ap, _∙_}
-use Rattle.demo.specs.Words.{quoted}
-use Rattle.demo.specs.Script.{begins, askedLose, askedKeep, askedGive}
-use Rattle.demo.proofs.Lines.{is-pass, is-lose, is-keep, is-give, is-noise, is-none}
-use Rattle.demo.proofs.script.asked_command.Statement.{statement}
-use Rattle.demo.proofs.script.asked_command.Tie as tie
+use Rattle.script.specs.Quoted.{quoted}
+use Rattle.script.specs.Script.{begins, askedLose, askedKeep, askedGive}
+use Rattle.script.proofs.Lines.{is-pass, is-lose, is-keep, is-give, is-noise, is-none}
+use Rattle.script.proofs.asked_command.Statement.{statement}
+use Rattle.script.proofs.asked_command.Tie as tie
 
 abbrev line : tie.Start → List ℕ
 line start = now (start .args .line)

@@ -1,15 +1,15 @@
--- `demo::script::begins` meets its contract. The loop's invariant: the test of the word and the line is the test of what is left of them.
+-- `script::begins` meets its contract. The loop's invariant: the test of the word and the line is the test of what is left of them.
 -- Assumes nothing.
 use Prim.Native.Nat.{_-_, _≤_}
 use denote.Ref.{now}
 use lib.ListN.{length, drop}
 use mathlib.Core.Path.{_≡_, refl, sym, _∙_}
 use native.Mathlib.Omega.{arith}
-use Rattle.demo.specs.Script.{begins}
-use Rattle.demo.proofs.Lines.{begins-short, begins-fails, begins-passes, begins-end}
+use Rattle.script.specs.Script.{begins}
+use Rattle.script.proofs.Lines.{begins-short, begins-fails, begins-passes, begins-end}
 use borrow.Author.Needs.{needs}
-use Rattle.demo.proofs.script.begins.Statement.{statement}
-use Rattle.demo.proofs.script.begins.Tie as tie
+use Rattle.script.proofs.begins.Statement.{statement}
+use Rattle.script.proofs.begins.Tie as tie
 
 abbrev Inv-loop : tie.InvT-loop
 Inv-loop word line i₀ i = (i ≤ length word) × (begins word line ≡ begins (drop i word) (drop i line))

@@ -1,9 +1,9 @@
--- `demo::script::asked_lose` meets its contract: the test of the count decides.
+-- `script::asked_lose` meets its contract: the test of the count decides.
 -- Assumes nothing.
 use denote.Ref.{now}
-use Rattle.demo.proofs.Lines.{lose-none, lose-some}
-use Rattle.demo.proofs.script.asked_lose.Statement.{statement}
-use Rattle.demo.proofs.script.asked_lose.Tie as tie
+use Rattle.script.proofs.Lines.{lose-none, lose-some}
+use Rattle.script.proofs.asked_lose.Statement.{statement}
+use Rattle.script.proofs.asked_lose.Tie as tie
 
 count-of-requires : tie.Need-count-of-requires
 count-of-requires c κs = tt

@@ -5,10 +5,10 @@ use mathlib.Core.List.{List, [], _∷_}
 use lib.Dec.{eqb, ltb}
 use lib.ListN.{length, getD, drop}
 use Rattle.lines.specs.Digits.{within, valueOf, isNumber}
-use Rattle.demo.specs.declared.script.Asked.{Asked}
-use Rattle.demo.specs.declared.script.Asked.the-variants.{Remark, Pass, Lose, Keep, Give, Noise, Bad}
-use Rattle.demo.specs.declared.script.Why.the-variants.{Long, Empty, Octet, Command, Count, Place}
-use Rattle.demo.specs.Words.{quoted}
+use Rattle.script.specs.declared.kinds.Asked.{Asked}
+use Rattle.script.specs.declared.kinds.Asked.the-variants.{Remark, Pass, Lose, Keep, Give, Noise, Bad}
+use Rattle.script.specs.declared.kinds.Why.the-variants.{Long, Empty, Octet, Command, Count, Place}
+use Rattle.script.specs.Quoted.{quoted}
 
 -- each octet of a text is printable ASCII
 unfoldable pub allPrintable : List ℕ → Bool
@@ -20,6 +20,10 @@ unfoldable pub begins : List ℕ → List ℕ → Bool
 begins [] line = true
 begins (octet ∷ rest) [] = false
 begins (octet ∷ rest) (other ∷ line) = eqb octet other && begins rest line
+
+-- what stands from a place of the line on; past its end there is nothing
+abbrev pub restOf : List ℕ → ℕ → List ℕ
+restOf line from = drop from line
 
 -- a count of one to three digits; 0 where the text is none
 unfoldable pub countOf : List ℕ → ℕ

@@ -1,15 +1,15 @@
--- `demo::script::all_printable` meets its contract. The loop's invariant: the test of the text is the test of what is left of it.
+-- `script::all_printable` meets its contract. The loop's invariant: the test of the text is the test of what is left of it.
 -- Assumes nothing.
 use Prim.Native.Nat.{_-_, _≤_}
 use denote.Ref.{now}
 use lib.ListN.{length, drop}
 use mathlib.Core.Path.{_≡_, refl, sym, _∙_}
 use native.Mathlib.Omega.{arith}
-use Rattle.demo.specs.Script.{allPrintable}
-use Rattle.demo.proofs.Lines.{printable-low, printable-high, printable-passes, printable-end}
+use Rattle.script.specs.Script.{allPrintable}
+use Rattle.script.proofs.Lines.{printable-low, printable-high, printable-passes, printable-end}
 use borrow.Author.Needs.{needs}
-use Rattle.demo.proofs.script.all_printable.Statement.{statement}
-use Rattle.demo.proofs.script.all_printable.Tie as tie
+use Rattle.script.proofs.all_printable.Statement.{statement}
+use Rattle.script.proofs.all_printable.Tie as tie
 
 abbrev Inv-loop : tie.InvT-loop
 Inv-loop text i₀ i = (i ≤ length text) × (allPrintable text ≡ allPrintable (drop i text))

@@ -1,10 +1,10 @@
--- `demo::script::place_of` meets its contract.
+-- `script::place_of` meets its contract.
 -- Assumes nothing.
 use native.Mathlib.Omega.{arith}
-use Rattle.demo.proofs.Lines.{place-digit, place-below, place-above}
+use Rattle.script.proofs.Lines.{place-digit, place-below, place-above}
 use borrow.Author.Needs.{needs}
-use Rattle.demo.proofs.script.place_of.Statement.{statement}
-use Rattle.demo.proofs.script.place_of.Tie as tie
+use Rattle.script.proofs.place_of.Statement.{statement}
+use Rattle.script.proofs.place_of.Tie as tie
 
 cast-result : tie.Need-cast-result
 cast-result c = search needs
