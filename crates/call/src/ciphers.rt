@@ -1,138 +1,64 @@
-// The lines of the ciphers and the keystreams, whose first field is a key. Each function makes a call and tells all that it hands out, and answers
-// whether it could write.
+// The calls of the ciphers and the keystreams, whose first field is a key.
 use crate::fields;
-use crate::fields::Cursor;
+use crate::fields::Given;
 use crate::tell;
-use crate::tell::Answer;
 use kgcore::Inputs;
 
-pub(crate) fn answer(line: &[u8], cursor: Cursor) -> Answer {
-    let key = fields::octets(line, cursor);
-    let octets = key.octets;
-    let count = key.count;
-    answer_of(line, key.next, &octets[..count])
-}
-
-fn answer_of(line: &[u8], cursor: Cursor, key: &[u8]) -> Answer {
-    match fields::place(line, b"kasumi kgcore prepare_key gsm ecsd gea4") {
-        0 => Answer::Told(kasumi(line, cursor, key)),
-        1 => Answer::Told(kgcore(line, cursor, key)),
-        2 => Answer::Told(prepare_key(line, cursor, key)),
-        3 => Answer::Told(gsm(line, cursor, key)),
-        4 => Answer::Told(ecsd(line, cursor, key)),
-        5 => Answer::Told(gea4(line, cursor, key)),
-        _ => Answer::NotMine,
+// kasumi KEY BLOCK, prepare_key KEY
+pub(crate) fn answer(which: u8, given: &Given) -> bool {
+    let key = fields::octets(given, 1);
+    match which {
+        b'0' => {
+            let ciphered = kasumi::kasumi(key, fields::number(given, 2));
+            tell::refusal_and_word(ciphered.refusal, ciphered.block, 8)
+        }
+        _ => {
+            let prepared = keystreams::prepare_key(key);
+            let yielded = prepared.key;
+            tell::part(prepared.refusal, &yielded)
+        }
     }
 }
 
-// kasumi KEY BLOCK
-fn kasumi(line: &[u8], cursor: Cursor, key: &[u8]) -> bool {
-    let block = fields::number64(line, cursor);
-    if !fields::is_end(line, block.next) {
-        return tell::bad();
-    }
-    let ciphered = kasumi::kasumi(key, block.value);
-    tell::block(ciphered.refusal, ciphered.block)
+// gsm KEY COUNT ROOM1 ROOM2, and ecsd
+pub(crate) fn two_blocks(which: u8, given: &Given, block2: &mut [u8]) -> bool {
+    let key = fields::octets(given, 1);
+    let mut output = fields::blank();
+    let size = fields::within(fields::size(given, 3), &output);
+    let block1 = &mut output[..size];
+    let refusal = put_blocks(which, key, fields::number32(given, 2), block1, block2);
+    tell::part(refusal, block1) & tell::buffer(block2)
 }
 
-struct InputsField {
-    inputs: Inputs,
-    next: Cursor,
+fn put_blocks(which: u8, key: &[u8], count: u32, block1: &mut [u8], block2: &mut [u8]) -> u8 {
+    match which {
+        b'0' => keystreams::gsm(key, count, block1, block2),
+        _ => keystreams::ecsd(key, count, block1, block2),
+    }
+}
+
+// kgcore KEY CA CB CC CD CE CL ROOM, gea4 KEY INPUT DIRECTION M ROOM
+pub(crate) fn put(which: u8, given: &Given, output: &mut [u8]) -> u8 {
+    let key = fields::octets(given, 1);
+    match which {
+        b'0' => kgcore::kgcore(inputs(given), key, fields::number32(given, 7), output),
+        _ => keystreams::gea4(
+            key,
+            fields::number32(given, 2),
+            fields::number8(given, 3),
+            fields::number32(given, 4),
+            output,
+        ),
+    }
 }
 
 // CA CB CC CD CE
-fn inputs(line: &[u8], cursor: Cursor) -> InputsField {
-    let ca = fields::number8(line, cursor);
-    let cb = fields::number8(line, ca.next);
-    let cc = fields::number32(line, cb.next);
-    let cd = fields::number8(line, cc.next);
-    let ce = fields::number16(line, cd.next);
-    let next = ce.next;
-    InputsField {
-        inputs: Inputs {
-            ca: ca.value,
-            cb: cb.value,
-            cc: cc.value,
-            cd: cd.value,
-            ce: ce.value,
-        },
-        next,
+fn inputs(given: &Given) -> Inputs {
+    Inputs {
+        ca: fields::number8(given, 2),
+        cb: fields::number8(given, 3),
+        cc: fields::number32(given, 4),
+        cd: fields::number8(given, 5),
+        ce: fields::number16(given, 6),
     }
-}
-
-// kgcore KEY INPUTS CL ROOM
-fn kgcore(line: &[u8], cursor: Cursor, key: &[u8]) -> bool {
-    let read = inputs(line, cursor);
-    let cl = fields::number32(line, read.next);
-    let room = fields::room(line, cl.next);
-    if !room.ok {
-        return tell::bad();
-    }
-    let mut output = fields::blank();
-    let size = fields::within(room.value, &output);
-    let refusal = kgcore::kgcore(read.inputs, key, cl.value, &mut output[..size]);
-    tell::lent(refusal, &output, room.value)
-}
-
-// gsm KEY COUNT ROOM1 ROOM2
-fn gsm(line: &[u8], cursor: Cursor, key: &[u8]) -> bool {
-    let count = fields::number32(line, cursor);
-    let room1 = fields::size(line, count.next);
-    let room2 = fields::room(line, room1.next);
-    if !room2.ok {
-        return tell::bad();
-    }
-    let mut block1 = fields::blank();
-    let mut block2 = fields::blank();
-    let size1 = fields::within(room1.value, &block1);
-    let size2 = fields::within(room2.value, &block2);
-    let refusal = keystreams::gsm(key, count.value, &mut block1[..size1], &mut block2[..size2]);
-    tell::both_lent(refusal, &block1, room1.value, &block2, room2.value)
-}
-
-// ecsd KEY COUNT ROOM1 ROOM2
-fn ecsd(line: &[u8], cursor: Cursor, key: &[u8]) -> bool {
-    let count = fields::number32(line, cursor);
-    let room1 = fields::size(line, count.next);
-    let room2 = fields::room(line, room1.next);
-    if !room2.ok {
-        return tell::bad();
-    }
-    let mut block1 = fields::blank();
-    let mut block2 = fields::blank();
-    let size1 = fields::within(room1.value, &block1);
-    let size2 = fields::within(room2.value, &block2);
-    let refusal = keystreams::ecsd(key, count.value, &mut block1[..size1], &mut block2[..size2]);
-    tell::both_lent(refusal, &block1, room1.value, &block2, room2.value)
-}
-
-// gea4 KEY INPUT DIRECTION M ROOM
-fn gea4(line: &[u8], cursor: Cursor, key: &[u8]) -> bool {
-    let input = fields::number32(line, cursor);
-    let direction = fields::number8(line, input.next);
-    let m = fields::number32(line, direction.next);
-    let room = fields::room(line, m.next);
-    if !room.ok {
-        return tell::bad();
-    }
-    let mut output = fields::blank();
-    let size = fields::within(room.value, &output);
-    let refusal = keystreams::gea4(
-        key,
-        input.value,
-        direction.value,
-        m.value,
-        &mut output[..size],
-    );
-    tell::lent(refusal, &output, room.value)
-}
-
-// prepare_key KEY
-fn prepare_key(line: &[u8], cursor: Cursor, key: &[u8]) -> bool {
-    if !fields::is_end(line, cursor) {
-        return tell::bad();
-    }
-    let prepared = keystreams::prepare_key(key);
-    let yielded = prepared.key;
-    tell::part(prepared.refusal, &yielded)
 }

@@ -1,142 +1,97 @@
-// The fields of a line, between single spaces. A reader of a field gives what the field says and the cursor behind it.
+// The fields of a line, which stand between single spaces: field 0 is the name of the call, and each field has the form that a letter says. A call is
+// given fields that fit; then what a reader gives is what the field says.
 ghost use mathlib.Core.Path.{_≡_};
 ghost use Prim.Native.Nat.{_≤_};
 ghost use lib.ListN.{length};
 ghost use Rattle.io.specs.Counts.{Counts};
 
-// Where the reading of a line stands: behind the field that was read last, and whether each field so far had its form.
-pub(crate) struct Cursor {
-    pub at: usize,
-    pub ok: bool,
-}
+// What is given to a call: its line, line ends up to octet 8,192, and behind each field, by so much, the octets that its hex digits say.
+pub(crate) type Given = [u8; 16384];
+
+const BEHIND: usize = 8192;
 
 // Where a field stands in its line.
-pub(crate) struct Span {
-    pub start: usize,
-    pub end: usize,
+struct Span {
+    start: usize,
+    end: usize,
 }
 
-// A number of 8, of 16, of 32 and of 64 bits.
-pub(crate) struct Field8 {
-    pub value: u8,
-    pub next: Cursor,
+// Field `place`. Where there are fewer, an empty one at the end of the line stands for it, which fits no letter.
+fn find(line: &[u8], place: usize) -> Span
+    ensures { λ r. ⌜ (r .start ≤ r .end) × (r .end ≤ length (now (line .entry))) ⌝ }
+{
+    let line_end = bytes::scan::find(line, 0, line.len(), b'\n');
+    let mut start = 0;
+    let mut left = place;
+    while 0 < left {
+        let end = bytes::scan::find(line, start, line_end, b' ');
+        if end == line_end {
+            return Span { start: end, end };
+        }
+        start = end + 1;
+        left -= 1;
+    }
+    let end = bytes::scan::find(line, start, line_end, b' ');
+    Span { start, end }
 }
 
-pub(crate) struct Field16 {
-    pub value: u16,
-    pub next: Cursor,
-}
-
-pub(crate) struct Field32 {
-    pub value: u32,
-    pub next: Cursor,
-}
-
-pub(crate) struct Field64 {
-    pub value: u64,
-    pub next: Cursor,
-}
-
-// A number of octets.
-pub(crate) struct SizeField {
-    pub value: usize,
-    pub next: Cursor,
-}
-
-// A number of octets with which a line ends, and whether the whole line has its form.
-pub(crate) struct LastField {
-    pub value: usize,
-    pub ok: bool,
-}
-
-// Octets, of which `count` are meant. Who reads them lends `&octets[..count]` to another function, which makes the call: there the prover knows them
-// as any octets.
-pub(crate) struct OctetsField {
-    pub octets: [u8; 2560],
-    pub count: usize,
-    pub next: Cursor,
-}
-
-// The first field of a line, the name of its call.
-fn name(line: &[u8]) -> &[u8] {
-    let start = 0;
-    let end = bytes::scan::find(line, start, line.len(), b' ');
+pub(crate) fn text(line: &[u8], place: usize) -> &[u8] {
+    let span = find(line, place);
+    let start = span.start;
+    let end = span.end;
     &line[start..end]
 }
 
-// The place of that name in a list of names with single spaces between, from 0; as many as there are where it is none of them.
-pub(crate) fn place(line: &[u8], names: &[u8]) -> usize {
-    let wanted = name(line);
+// The place of the last field of a line whose fields do not fit.
+pub(crate) const NONE: usize = usize::MAX;
+
+// The place of the last field of a line that has the fields that an entry of the table says, and no more. Octet 3 of the entry is the letter of field 1.
+// The octets of the fields are put in what is given to the call.
+pub(crate) fn fit(line: &[u8], entry: &[u8], given: &mut Given) -> usize {
     let mut place = 0;
-    let mut start = 0;
-    while start < names.len() {
-        let end = bytes::scan::find(names, start, names.len(), b' ');
-        if check::same(wanted, &names[start..end]) {
-            return place;
-        }
+    let mut i = 3;
+    while i < entry.len() {
         place += 1;
-        if end == names.len() {
-            return place;
+        if !fits(line, place, entry[i], given) {
+            return NONE;
         }
-        start = end + 1;
+        i += 1;
     }
-    place
+    let last = find(line, place);
+    if last.end == line.len() { place } else { NONE }
 }
 
-// Behind the name.
-pub(crate) fn start(line: &[u8]) -> Cursor {
-    let first = name(line);
-    Cursor {
-        at: first.len(),
-        ok: true,
-    }
-}
-
-// The field behind the cursor, past one space. Behind the last field there is none: an empty one stands for it, which no reader takes.
-pub(crate) fn field(line: &[u8], cursor: Cursor) -> Span
-    ensures { λ r. ⌜ (r .start ≤ r .end) × (r .end ≤ length (now (line .entry))) ⌝ }
-{
-    let at = cursor.at;
-    let len = line.len();
-    if at < len {
-        let start = at + 1;
-        let end = bytes::scan::find(line, start, len, b' ');
-        return Span { start, end };
-    }
-    Span {
-        start: len,
-        end: len,
+// The letters: 1, 2, 4 and 8 are numbers of so many octets, s is a size that can be lent, x is any octets, and the others are octets of one size: k a
+// key, w the words of an AES key, r the round keys of KASUMI, and t the table for FI.
+fn fits(line: &[u8], place: usize, letter: u8, given: &mut Given) -> bool {
+    let text = text(line, place);
+    match letter {
+        b'1' => is_number(text, 0xFF),
+        b'2' => is_number(text, 0xFFFF),
+        b'4' => is_number(text, 0xFFFF_FFFF),
+        b'8' => is_number(text, u64::MAX),
+        b's' => is_number(text, 65600),
+        _ => is_count(letter, text, put_octets(line, place, given)),
     }
 }
 
-// Whether each field had its form and no other follows.
-pub(crate) fn is_end(line: &[u8], cursor: Cursor) -> bool {
-    cursor.ok & (cursor.at == line.len())
-}
-
-// A number up to `most`, decimal or hex after 0x; 0 where there is none.
-fn number_to(line: &[u8], cursor: Cursor, most: u64) -> Field64
-    ensures { λ r. ⌜ r .value ≤ most ⌝ }
-{
-    let span = field(line, cursor);
-    let start = span.start;
-    let end = span.end;
-    let read = read_number(&line[start..end]);
-    if most < read.value {
-        return Field64 {
-            value: 0,
-            next: Cursor { at: end, ok: false },
-        };
-    }
-    Field64 {
-        value: read.value,
-        next: Cursor {
-            at: end,
-            ok: cursor.ok & (read.refusal == 0),
-        },
+// Whether a field of this letter can have this text, which says so many octets. A lone - is no octets, where any number will do.
+fn is_count(letter: u8, text: &[u8], count: usize) -> bool {
+    match letter {
+        b'k' => count == 16,
+        b'w' => count == 176,
+        b'r' => count == 128,
+        b't' => count == 1280,
+        _ => (0 < count) & (count <= 2560) | check::same(text, b"-"),
     }
 }
 
+fn is_number(text: &[u8], most: u64) -> bool {
+    let read = read_number(text);
+    (read.refusal == 0) & (read.value <= most)
+}
+
+// A number, decimal or hex after 0x; 0 where there is none.
 fn read_number(text: &[u8]) -> lines::Number {
     if 2 < text.len() {
         if (text[0] == b'0') & (text[1] == b'x') {
@@ -146,55 +101,53 @@ fn read_number(text: &[u8]) -> lines::Number {
     lines::decimal(text)
 }
 
-pub(crate) fn number8(line: &[u8], cursor: Cursor) -> Field8 {
-    let read = number_to(line, cursor, 0xFF);
-    let next = read.next;
-    Field8 {
-        value: read.value as u8,
-        next,
+// Puts the octets of a field, pairs of hex digits, and answers how many there are; 0 where it is no such field.
+fn put_octets(line: &[u8], place: usize, given: &mut [u8]) -> usize
+    requires { ⌜ 8192 ≤ length (now given) ⌝ }
+{
+    let span = find(line, place);
+    let start = span.start;
+    let end = span.end;
+    if given.len() - BEHIND < start {
+        return 0;
     }
+    let at = start + BEHIND;
+    let put = lines::octets_of_hex(&line[start..end], &mut given[at..]);
+    put.count
 }
 
-pub(crate) fn number16(line: &[u8], cursor: Cursor) -> Field16 {
-    let read = number_to(line, cursor, 0xFFFF);
-    let next = read.next;
-    Field16 {
-        value: read.value as u16,
-        next,
+// The octets of a field that fits, which are half as many as its digits, and none for a lone -.
+pub(crate) fn octets(given: &Given, place: usize) -> &[u8] {
+    let whole: &[u8] = given;
+    let span = find(whole, place);
+    let start = span.start + BEHIND;
+    let end = start + (span.end - span.start) / 2;
+    if whole.len() < end {
+        return &whole[..0];
     }
+    &whole[start..end]
 }
 
-pub(crate) fn number32(line: &[u8], cursor: Cursor) -> Field32 {
-    let read = number_to(line, cursor, 0xFFFF_FFFF);
-    let next = read.next;
-    Field32 {
-        value: read.value as u32,
-        next,
-    }
+// The number of a field that fits. The readers below take no more octets than their letter says.
+pub(crate) fn number(given: &Given, place: usize) -> u64 {
+    let read = read_number(text(given, place));
+    read.value
 }
 
-pub(crate) fn number64(line: &[u8], cursor: Cursor) -> Field64 {
-    number_to(line, cursor, u64::MAX)
+pub(crate) fn number8(given: &Given, place: usize) -> u8 {
+    (number(given, place) % 0x100) as u8
 }
 
-// A number of octets, at most as many as can be lent.
-pub(crate) fn size(line: &[u8], cursor: Cursor) -> SizeField {
-    let read = number_to(line, cursor, 65600);
-    let next = read.next;
-    SizeField {
-        value: read.value as usize,
-        next,
-    }
+pub(crate) fn number16(given: &Given, place: usize) -> u16 {
+    (number(given, place) % 0x10000) as u16
 }
 
-// The size of a lent output, the last field of its line.
-pub(crate) fn room(line: &[u8], cursor: Cursor) -> LastField {
-    let read = size(line, cursor);
-    let ok = is_end(line, read.next);
-    LastField {
-        value: read.value,
-        ok,
-    }
+pub(crate) fn number32(given: &Given, place: usize) -> u32 {
+    (number(given, place) % 0x1_0000_0000) as u32
+}
+
+pub(crate) fn size(given: &Given, place: usize) -> usize {
+    number(given, place) as usize
 }
 
 // An output before it is lent. Kept apart, so that a proof above need not look at 65,600 octets.
@@ -204,8 +157,8 @@ pub(crate) fn blank() -> [u8; 65600]
     [0xAA; 65600]
 }
 
-// How much of an output a line has lent: all that it asks for, since a reader takes no more than there is. It stands right before each use, where the
-// prover looks for what `&output[..n]` needs.
+// How much of an output a line has lent: all that it asks for, since no size that fits is above what there is. It stands right before each use, where
+// the prover looks for what `&output[..n]` needs.
 pub(crate) fn within(size: usize, output: &[u8]) -> usize
     ensures { λ r. ⌜ Counts r (now (output .entry)) ⌝ }
 {
@@ -213,26 +166,4 @@ pub(crate) fn within(size: usize, output: &[u8]) -> usize
         return output.len();
     }
     size
-}
-
-// Octets as pairs of hex digits, or a lone - for none.
-pub(crate) fn octets(line: &[u8], cursor: Cursor) -> OctetsField
-    ensures { λ r. ⌜ Counts (r .count) (r .octets) ⌝ }
-{
-    let span = field(line, cursor);
-    let start = span.start;
-    let end = span.end;
-    let text = &line[start..end];
-    let none = check::same(text, b"-");
-    let mut octets = [0u8; 2560];
-    let put = lines::octets_of_hex(text, &mut octets);
-    let pairs = (put.refusal == 0) & (start < end);
-    OctetsField {
-        octets,
-        count: put.count,
-        next: Cursor {
-            at: end,
-            ok: cursor.ok & (none | pairs),
-        },
-    }
 }

@@ -1,6 +1,7 @@
 // Makes any public call: a line of standard input is a call, and a line of standard output everything that it hands out.
 mod bits;
 mod blocks;
+mod calls;
 mod challenges;
 mod ciphers;
 mod ends;
@@ -14,95 +15,56 @@ mod states;
 mod tell;
 
 use libc::STDIN_FILENO;
-use tell::Answer;
 
-// The answer to a line: the modules are asked one after the other whether its name is one of theirs.
-fn answer(line: &[u8]) -> bool {
-    let cursor = fields::start(line);
-    if let Answer::Told(told) = ciphers::answer(line, cursor) {
-        return told;
-    }
-    if let Answer::Told(told) = rounds::answer(line, cursor) {
-        return told;
-    }
-    if let Answer::Told(told) = messages::answer(line, cursor) {
-        return told;
-    }
-    if let Answer::Told(told) = blocks::answer(line, cursor) {
-        return told;
-    }
-    if let Answer::Told(told) = challenges::answer(line, cursor) {
-        return told;
-    }
-    if let Answer::Told(told) = bits::answer(line, cursor) {
-        return told;
-    }
-    if let Answer::Told(told) = numbers::answer(line, cursor) {
-        return told;
-    }
-    if let Answer::Told(told) = headers::answer(line, cursor) {
-        return told;
-    }
-    if let Answer::Told(told) = links::answer(line, cursor) {
-        return told;
-    }
-    if let Answer::Told(told) = ends::answer(line, cursor) {
-        return told;
-    }
-    tell::bad()
-}
-
-// The answer to a line of which `count` octets were heard; one longer than the buffer is a bad line.
+// The answer to a line of which `count` octets were heard; one that fills the buffer is too long, and a bad line.
 fn answer_heard(line: &[u8], count: usize) -> bool {
-    if line.len() < count {
-        return tell::bad();
-    }
-    answer(&line[..count])
-}
-
-// The line with one octet more, and how many octets it then has. One more than there is room for stands for every line that is too long.
-fn kept(line: &mut [u8], count: usize, octet: u8) -> usize {
     if count < line.len() {
-        line[count] = octet;
-        return count + 1;
+        calls::answer(&line[..count])
+    } else {
+        tell::line_end(tell::bad())
     }
-    line.len() + 1
 }
 
-// How many octets of the last line were heard; that the input ended; that nothing can be written any more.
-enum Heard {
-    Octets(usize),
-    Ended,
-    Failed,
-}
+// Stands for a number of octets where no more is to be heard: the input ended, or nothing can be written any more.
+const STOP: usize = usize::MAX;
 
-// Hears a piece of the input: octets go to the line, and a line end has it answered.
-fn hear(piece: &[u8], line: &mut [u8], heard: usize) -> Heard {
+// Hears a piece of the input: octets go to the line while there is room, and a line end has it answered. Answers how many octets of the last line were
+// heard.
+fn hear(piece: &[u8], line: &mut [u8], heard: usize) -> usize {
     let mut count = heard;
     let mut i = 0;
     while i < piece.len() {
         if piece[i] == b'\n' {
             if !answer_heard(line, count) {
-                return Heard::Failed;
+                return STOP;
             }
             count = 0;
-        } else {
-            count = kept(line, count, piece[i]);
+        } else if count < line.len() {
+            line[count] = piece[i];
+            count += 1;
         }
         i += 1;
     }
-    Heard::Octets(count)
+    count
 }
 
-// Reads once, and hears what came.
-fn hear_some(line: &mut [u8], heard: usize) -> Heard {
+// Reads once, and hears what came. Where the input ended, what was heard of a line that no line end ended is answered too.
+fn hear_some(line: &mut [u8], heard: usize) -> usize {
     let mut piece = io::large_buffer();
     let got = libc::read(STDIN_FILENO, &mut piece);
     let n = io::count(got, &piece);
     if n == 0 {
-        return Heard::Ended;
+        hear_end(line, heard)
+    } else {
+        hear(&piece[..n], line, heard)
     }
-    hear(&piece[..n], line, heard)
+}
+
+fn hear_end(line: &[u8], heard: usize) -> usize {
+    if 0 < heard {
+        answer_heard(line, heard);
+    }
+    STOP
 }
 
 // A proved loop has to end, and nothing says that the input does: the loop counts its turns down, from a number that no run uses up.
@@ -110,21 +72,15 @@ fn hear_all(line: &mut [u8]) {
     let mut heard = 0;
     let mut turns = u64::MAX;
     while 0 < turns {
-        match hear_some(line, heard) {
-            Heard::Octets(count) => {
-                heard = count;
-                turns -= 1;
-            }
-            Heard::Ended => turns = 0,
-            Heard::Failed => return,
+        heard = hear_some(line, heard);
+        if heard == STOP {
+            return;
         }
-    }
-    if 0 < heard {
-        answer_heard(line, heard);
+        turns -= 1;
     }
 }
 
 fn main() {
-    let mut line = [0u8; 8192];
+    let mut line = [0u8; 8193];
     hear_all(&mut line);
 }

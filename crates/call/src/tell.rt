@@ -1,24 +1,65 @@
 // What the program writes. Each function answers whether it could. Parts of a line are joined by `&`, which has no branch to prove: after a part that
 // could not be written others may be, but no line end.
-ghost use Prim.Native.Nat.{_<_, _≤_};
-use crate::fields;
+ghost use Prim.Native.Nat.{_≤_};
 use libc::STDOUT_FILENO;
-
-// What a module says of a line: whether the answer to it could be written, or that its name is none of the module's.
-pub(crate) enum Answer {
-    Told(bool),
-    NotMine,
-}
 
 // The answer to a line that is no call.
 pub(crate) fn bad() -> bool {
-    io::write_all(STDOUT_FILENO, b"?\n")
+    io::write_all(STDOUT_FILENO, b"?")
 }
 
-// The octets of a block.
-fn octets_of(block: u64) -> [u8; 8] {
+// The end of a line that could be told whole; another gets none.
+pub(crate) fn line_end(told: bool) -> bool {
+    told && io::write_all(STDOUT_FILENO, b"\n")
+}
+
+pub(crate) fn space() -> bool {
+    io::write_all(STDOUT_FILENO, b" ")
+}
+
+pub(crate) fn number(number: u64) -> bool {
+    io::print_decimal(STDOUT_FILENO, number)
+}
+
+// A space, and a number.
+pub(crate) fn next_number(value: u64) -> bool {
+    space() & number(value)
+}
+
+pub(crate) fn refusal(refusal: u8) -> bool {
+    number(refusal as u64)
+}
+
+// Octets as hex, or - where there are none. No output has more than 65,600.
+pub(crate) fn hex(octets: &[u8]) -> bool {
+    if octets.len() == 0 {
+        return io::write_all(STDOUT_FILENO, b"-");
+    }
+    let mut text = [0u8; 131200];
+    let put = lines::hex_of_octets(octets, &mut text);
+    let count = put.count;
+    io::write_all(STDOUT_FILENO, &text[..count])
+}
+
+// A space, and octets.
+pub(crate) fn buffer(octets: &[u8]) -> bool {
+    space() & hex(octets)
+}
+
+// A refusal and octets.
+pub(crate) fn part(refused: u8, octets: &[u8]) -> bool {
+    refusal(refused) & buffer(octets)
+}
+
+// What sealing and opening answer first: a refusal, a number and a length.
+pub(crate) fn outcome(refused: u8, value: u32, size: usize) -> bool {
+    refusal(refused) & next_number(value as u64) & next_number(size as u64)
+}
+
+// The octets of a word.
+fn octets_of(word: u64) -> [u8; 8] {
     let mut octets = [0u8; 8];
-    let mut rest = block;
+    let mut rest = word;
     let mut i: usize = 8;
     while 0 < i {
         i -= 1;
@@ -28,115 +69,48 @@ fn octets_of(block: u64) -> [u8; 8] {
     octets
 }
 
-// A refusal and a block, which is sixteen hex digits.
-pub(crate) fn block(refusal: u8, block: u64) -> bool {
-    let octets = octets_of(block);
-    part(refusal, &octets)
-}
-
-// A refusal and a code, which is eight hex digits.
-pub(crate) fn code(refusal: u8, code: u32) -> bool {
-    let octets = octets_of(code as u64);
-    part(refusal, &octets[4..])
-}
-
-// A block alone.
-pub(crate) fn block_alone(block: u64) -> bool {
-    let octets = octets_of(block);
-    octets_alone(&octets)
-}
-
-// Octets alone.
-pub(crate) fn octets_alone(octets: &[u8]) -> bool {
-    line_end(hex(octets))
-}
-
-// A refusal and octets.
-pub(crate) fn part(refusal: u8, octets: &[u8]) -> bool {
-    line_end(number(refusal as u64) & buffer(octets))
-}
-
-// A refusal and what a lent output holds.
-pub(crate) fn lent(refusal: u8, octets: &[u8; 65600], room: usize) -> bool {
-    line_end(number(refusal as u64) & output(octets, room))
-}
-
-// A refusal and what two lent outputs hold.
-pub(crate) fn both_lent(
-    refusal: u8,
-    octets1: &[u8; 65600],
-    room1: usize,
-    octets2: &[u8; 65600],
-    room2: usize,
-) -> bool {
-    line_end(number(refusal as u64) & output(octets1, room1) & output(octets2, room2))
-}
-
-// What sealing and opening answer first: a refusal, a number and a length.
-pub(crate) fn outcome(refusal: u8, value: u32, size: usize) -> bool {
-    number(refusal as u64) & next_number(value as u64) & next_number(size as u64)
-}
-
-// A space, and what a lent output holds.
-pub(crate) fn output(octets: &[u8; 65600], room: usize) -> bool {
-    front(octets, room)
-}
-
-fn front(octets: &[u8], room: usize) -> bool {
-    let size = fields::within(room, octets);
-    buffer(&octets[..size])
-}
-
-pub(crate) fn number(number: u64) -> bool {
-    io::print_decimal(STDOUT_FILENO, number)
-}
-
-fn space() -> bool {
-    io::write_all(STDOUT_FILENO, b" ")
-}
-
-// A space, and a number.
-pub(crate) fn next_number(value: u64) -> bool {
-    space() & number(value)
-}
-
-// The end of a line that could be told whole; another gets none.
-pub(crate) fn line_end(told: bool) -> bool {
-    told && io::write_all(STDOUT_FILENO, b"\n")
-}
-
-// A space, and octets.
-pub(crate) fn buffer(octets: &[u8]) -> bool {
-    space() & hex(octets)
-}
-
-// Octets as hex, or - where there are none.
-fn hex(octets: &[u8]) -> bool {
-    if octets.len() == 0 {
-        return io::write_all(STDOUT_FILENO, b"-");
-    }
-    let mut i = 0;
-    while i < octets.len() {
-        let end = piece_end(octets.len(), i);
-        if !piece(&octets[i..end]) {
-            return false;
-        }
-        i = end;
-    }
-    true
-}
-
-// Where the piece of at most 2,048 octets from i on ends.
-fn piece_end(len: usize, i: usize) -> usize
-    requires { ⌜ i < len ⌝ }
-    ensures { λ r. ⌜ (i < r) × (r ≤ len) ⌝ }
+// The last octets of a word, as hex.
+pub(crate) fn word(word: u64, size: usize) -> bool
+    requires { ⌜ size ≤ 8 ⌝ }
 {
-    if len - i < 2048 { len } else { i + 2048 }
+    let octets = octets_of(word);
+    let start = 8 - size;
+    hex(&octets[start..])
 }
 
-fn piece(octets: &[u8]) -> bool {
-    let mut text = [0u8; 4096];
-    let put = lines::hex_of_octets(octets, &mut text);
-    let count = put.count;
-    io::write_all(STDOUT_FILENO, &text[..count])
+// A refusal and a word of `size` octets.
+pub(crate) fn refusal_and_word(refused: u8, value: u64, size: usize) -> bool
+    requires { ⌜ size ≤ 8 ⌝ }
+{
+    refusal(refused) & space() & word(value, size)
+}
+
+fn word16(value: u16) -> bool {
+    word(value as u64, 2)
+}
+
+fn word32(value: u32) -> bool {
+    word(value as u64, 4)
+}
+
+// Words of two octets, one behind the other.
+pub(crate) fn words16(words: &[u16]) -> bool {
+    let mut told = true;
+    let mut i = 0;
+    while i < words.len() {
+        told = told & word16(words[i]);
+        i += 1;
+    }
+    told
+}
+
+// Words of four octets, one behind the other.
+pub(crate) fn words32(words: &[u32]) -> bool {
+    let mut told = true;
+    let mut i = 0;
+    while i < words.len() {
+        told = told & word32(words[i]);
+        i += 1;
+    }
+    told
 }

@@ -1,10 +1,10 @@
 -- `call::hear` is safe and ends: the line keeps its length, and the loop goes through the piece.
 -- Assumes nothing.
-use Prim.Native.Nat.{ℕ, _-_, _≤_}
+use Prim.Native.Nat.{_-_, _≤_}
 use borrow.Author.Needs.{needs}
-use lib.ListN.{length}
+use lib.ListN.{length, length-set}
 use mathlib.Core.Logic.{⊎-elim}
-use mathlib.Core.Path.{_≡_, refl, ap}
+use mathlib.Core.Path.{_≡_, _∙_, ap}
 use native.Mathlib.Omega.{arith}
 use Rattle.call.proofs.hear.Statement.{statement}
 use Rattle.call.proofs.hear.Tie as tie
@@ -16,7 +16,7 @@ abbrev μ-loop : tie.MeasureT-loop
 μ-loop piece line₀ heard count₀ i₀ line count i = length piece - i
 
 loop-holds : tie.Need-loop-holds Inv-loop μ-loop
-loop-holds c = (omega arith, refl)
+loop-holds c = search needs
 
 shared-slice-read-if1 : tie.Need-shared-slice-read-if1 Inv-loop μ-loop
 shared-slice-read-if1 c = search needs
@@ -30,11 +30,14 @@ same-length c = search needs
 returns : tie.Need-returns Inv-loop μ-loop
 returns c = search needs
 
-shared-slice-read-kept : tie.Need-shared-slice-read-kept Inv-loop μ-loop
-shared-slice-read-kept c = search needs
+shared-slice-read-line : tie.Need-shared-slice-read-line Inv-loop μ-loop
+shared-slice-read-line c = search needs
 
-kept-requires : tie.Need-kept-requires Inv-loop μ-loop
-kept-requires c κs = search needs
+slice-write-line : tie.Need-slice-write-line Inv-loop μ-loop
+slice-write-line c = search needs
+
+add-count : tie.Need-add-count Inv-loop μ-loop
+add-count c = search needs
 
 add-i : tie.Need-add-i Inv-loop μ-loop
 add-i c = search needs
@@ -43,8 +46,12 @@ loop-less : tie.Need-loop-less Inv-loop μ-loop
 loop-less c = search needs
 
 loop-again : tie.Need-loop-again Inv-loop μ-loop
-loop-again c =
-    (search needs, ⊎-elim (λ w. omega (arith, ap length (w .4))) (λ w. omega (arith, ap length (w .6))) (c .if1 .came))
+loop-again c = (
+  search needs,
+  ⊎-elim (λ w. omega (arith, ap length (w .4)))
+      (⊎-elim (λ w. ap length (w .3) ∙ simp length-set (c .before .before .before .loop .inv .1)) (λ w. omega (arith, ap length (w .2))))
+      (c .if1 .came),
+)
 
 same-length-2 : tie.Need-same-length-2 Inv-loop μ-loop
 same-length-2 c = search needs
@@ -63,8 +70,9 @@ hear-spec =
     answer-heard-requires
     same-length
     returns
-    shared-slice-read-kept
-    kept-requires
+    shared-slice-read-line
+    slice-write-line
+    add-count
     add-i
     loop-less
     loop-again

@@ -1,9 +1,9 @@
 -- `call::hear_all` is safe and ends: the measure is the number of turns that are left.
 -- Assumes nothing.
-use Prim.Native.Nat.{ℕ, _-_, _≤_}
+use Prim.Native.Nat.{_-_}
 use borrow.Author.Needs.{needs}
 use lib.ListN.{length}
-use mathlib.Core.Path.{_≡_, refl}
+use mathlib.Core.Path.{_≡_}
 use Rattle.call.proofs.hear_all.Statement.{statement}
 use Rattle.call.proofs.hear_all.Tie as tie
 
@@ -14,13 +14,16 @@ abbrev μ-loop : tie.MeasureT-loop
 μ-loop line₀ heard₀ turns₀ line heard turns = turns
 
 loop-holds : tie.Need-loop-holds Inv-loop μ-loop
-loop-holds c = refl
+loop-holds c = search needs
 
 hear-some-requires : tie.Need-hear-some-requires Inv-loop μ-loop
 hear-some-requires c κs = search needs
 
-enum-known-count : tie.Need-enum-known-count Inv-loop μ-loop
-enum-known-count c = search needs
+same-length : tie.Need-same-length Inv-loop μ-loop
+same-length c = search needs
+
+returns : tie.Need-returns Inv-loop μ-loop
+returns c = search needs
 
 sub-turns : tie.Need-sub-turns Inv-loop μ-loop
 sub-turns c = search needs
@@ -31,38 +34,11 @@ loop-less c = search needs
 loop-again : tie.Need-loop-again Inv-loop μ-loop
 loop-again c = search needs
 
-enum-told : tie.Need-enum-told Inv-loop μ-loop
-enum-told c = search needs
-
-loop-less-2 : tie.Need-loop-less-2 Inv-loop μ-loop
-loop-less-2 c = search needs
-
-loop-again-2 : tie.Need-loop-again-2 Inv-loop μ-loop
-loop-again-2 c = search needs
-
-enum-told-2 : tie.Need-enum-told-2 Inv-loop μ-loop
-enum-told-2 c = search needs
-
-same-length : tie.Need-same-length Inv-loop μ-loop
-same-length c = search needs
-
-returns : tie.Need-returns Inv-loop μ-loop
-returns c = search needs
-
-answer-heard-requires : tie.Need-answer-heard-requires Inv-loop μ-loop
-answer-heard-requires c κs = search needs
-
 same-length-2 : tie.Need-same-length-2 Inv-loop μ-loop
 same-length-2 c = search needs
 
 returns-2 : tie.Need-returns-2 Inv-loop μ-loop
 returns-2 c = search needs
-
-same-length-3 : tie.Need-same-length-3 Inv-loop μ-loop
-same-length-3 c = search needs
-
-returns-3 : tie.Need-returns-3 Inv-loop μ-loop
-returns-3 c = search needs
 
 pub hear-all-spec : {M : Type 1} → statement M
 hear-all-spec =
@@ -72,18 +48,10 @@ hear-all-spec =
     μ-loop
     loop-holds
     hear-some-requires
-    enum-known-count
+    same-length
+    returns
     sub-turns
     loop-less
     loop-again
-    enum-told
-    loop-less-2
-    loop-again-2
-    enum-told-2
-    same-length
-    returns
-    answer-heard-requires
     same-length-2
-    returns-2
-    same-length-3
-    returns-3)
+    returns-2)
