@@ -30,11 +30,27 @@ pub(crate) fn refusal(refusal: u8) -> bool {
     number(refusal as u64)
 }
 
-// Octets as hex, or - where there are none. No output has more than 65,600.
+// Octets as hex, or - where there are none.
 pub(crate) fn hex(octets: &[u8]) -> bool {
     if octets.len() == 0 {
         return io::write_all(STDOUT_FILENO, b"-");
     }
+    if octets.len() <= 2048 {
+        return short_hex(octets);
+    }
+    long_hex(octets)
+}
+
+// Few octets as hex: most are, and their text is soon cleared.
+fn short_hex(octets: &[u8]) -> bool {
+    let mut text = [0u8; 4096];
+    let put = lines::hex_of_octets(octets, &mut text);
+    let count = put.count;
+    io::write_all(STDOUT_FILENO, &text[..count])
+}
+
+// As many octets as an output can have, 65,600.
+fn long_hex(octets: &[u8]) -> bool {
     let mut text = [0u8; 131200];
     let put = lines::hex_of_octets(octets, &mut text);
     let count = put.count;
