@@ -6,8 +6,8 @@ use mathlib.Core.List.{List, [], _∷_, _++_}
 use lib.Dec.{eqb, ltb}
 use lib.ListN.{length}
 use Rattle.refusals.specs.Refusal.{Row}
-use Rattle.refusals.specs.Call.{Call, Answered, front, makes}
-use Rattle.frames.specs.Frame.{AreOctets, headerOf, payloadOf, lookOrder}
+use Rattle.refusals.specs.Call.{Call, front, makes}
+use Rattle.frames.specs.Frame.{headerOf, payloadOf, lookOrder}
 use Rattle.numbering.specs.declared.Numbering.{Numbering}
 use Rattle.numbering.specs.Numbering.{start, canArise, CannotArise, candidate, candidateOrder, accepted}
 use Rattle.link.specs.declared.Link.{Link}
@@ -30,7 +30,7 @@ afterAccepting w receiver n = receiverOf (receiver .link) (accepted w (receiver 
 abbrev pub openReceiverCall : List ℕ → ℕ → ℕ → ℕ → Call Receiver
 openReceiverCall key iov sapi direction = makes (linkOrder key sapi direction) (newReceiver noLink) (newReceiver (linkOf key iov sapi direction))
 
--- a receiver that can arise: its link can, and its numbering can
+-- receiver::can_arise: a receiver that can arise: its link can, and its numbering can
 unfoldable pub receiverCanArise : ℕ → Receiver → Bool
 receiverCanArise w receiver = linkCanArise (receiver .link) && canArise w (receiver .numbering)
 
@@ -77,9 +77,3 @@ openCall w receiver octets output = record {
     output = front (ciphered (receiver .link) (candidateOf w receiver octets) (payloadOf octets)) output;
   };
 }
-
--- the receivers that arise: one that was opened, and what opening a frame leaves of one that arises
-pub data ReceiverArises (w : ℕ) : Receiver → Type 0 where
-  opened : (key : List ℕ) (iov sapi direction : ℕ) {receiver : Receiver} → Answered (openReceiverCall key iov sapi direction) 0 [] receiver → ReceiverArises w receiver
-  accepted-frame : (octets before : List ℕ) {receiver later : Receiver} {number size : ℕ} {after : List ℕ} → AreOctets octets → ReceiverArises w receiver
-      → Answered (openCall w receiver octets before) 0 (number ∷ size ∷ []) (record { receiver = later; output = after }) → ReceiverArises w later

@@ -16,7 +16,7 @@ pub struct Receiver {
     pub numbering: Numbering,
 }
 
-// The answer to opening a receiver.
+// The answer to opening a receiver, or to making one from its stored form.
 pub struct OpenedReceiver {
     pub refusal: u8,
     pub receiver: Receiver,
@@ -44,7 +44,7 @@ pub fn open_receiver(key: &[u8], iov: u32, sapi: u8, direction: u8) -> OpenedRec
 }
 
 // A receiver that can arise.
-fn can_arise(receiver: Receiver) -> bool
+pub fn can_arise(receiver: Receiver) -> bool
     ensures { λ r. ⌜ r ≡ receiverCanArise width receiver ⌝ }
 {
     let link = receiver.link;

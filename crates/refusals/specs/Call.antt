@@ -55,6 +55,10 @@ putsTwo order results outputs = record {
 abbrev pub makes : {State : Type 0} → List Row → State → State → Call State
 makes order refused made = record { order = order; numbers = []; candidateWith = noCandidate; before = refused; after = made }
 
+-- a call that changes a state, which stays as it was when refused
+abbrev pub changes : {State : Type 0} → List Row → State → State → Call State
+changes order state changed = record { order = order; numbers = []; candidateWith = noCandidate; before = state; after = changed }
+
 -- numbers put to 0, but for the first where it is a candidate that is given
 abbrev pub zeros : Bool → List ℕ → List ℕ
 zeros candidate [] = []

@@ -9,7 +9,7 @@ use lib.ListN.{length, getD}
 
 -- the last number of the table; the first is 1
 abbrev pub lastRefusal : ℕ
-lastRefusal = 12
+lastRefusal = 13
 
 -- a row of a call's order: a refusal's number, and whether its cause holds
 pub record Row : Type 0 where

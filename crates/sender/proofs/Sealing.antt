@@ -5,7 +5,7 @@ use native.Mathlib.Omega.{arith}
 use mathlib.Core.Path.{_≡_, sym, ap, ap₂, subst, _∙_}
 use mathlib.Core.Bool.{true, false, and-eq-true-iff}
 use mathlib.Core.List.{List, [], _∷_, _++_, append-nil, append-assoc}
-use borrow.Author.Tests.{eq-eqb, ne-eqb, lt-ltb, le-ltb, leb-true}
+use borrow.Author.Tests.{eq-eqb, ne-eqb, lt-ltb, le-ltb, le-leb, lt-leb, leb-true}
 use borrow.Rule.Slice.PartMut.{midOf, putMid, mid-len}
 use lib.ListN.{length, take, drop, length-append, length-drop, drop-of-length-le}
 use lib.Seq.{take-at, drop-at, drop-drop}
@@ -23,11 +23,24 @@ use Rattle.sender.specs.declared.Sealed.{Sealed}
 use Rattle.sender.specs.Sender.{senderCanArise, sealOrder, sealCall}
 
 -- a sender that can arise, as facts
-pub sender-says : (sender : Sender) → senderCanArise sender ≡ true → (linkCanArise (sender .link) ≡ true) × (sender .next ≤ end)
+pub record SenderSays (sender : Sender) : Type 0 where
+  pub link-can : linkCanArise (sender .link) ≡ true
+  pub before-end : sender .reserved ≤ end
+  pub within : sender .next ≤ sender .reserved
+  pub near : sender .reserved ≤ sender .next + 64
+
+pub sender-says : (sender : Sender) → senderCanArise sender ≡ true → SenderSays sender
 unfolding senderCanArise
 sender-says sender good =
-    let halves = and-eq-true-iff _ _ .0 good in
-    (halves .0, leb-true _ _ (halves .1))
+    let link-rest = and-eq-true-iff _ _ .0 good in
+    let end-rest = and-eq-true-iff _ _ .0 (link-rest .1) in
+    let both = and-eq-true-iff _ _ .0 (end-rest .1) in
+    record { link-can = link-rest .0; before-end = leb-true _ _ (end-rest .0); within = leb-true _ _ (both .0); near = leb-true _ _ (both .1) }
+
+-- and the facts make one that can
+pub says-sender : (sender : Sender) → SenderSays sender → senderCanArise sender ≡ true
+unfolding senderCanArise
+says-sender sender says = simp (says .link-can, le-leb _ _ (says .before-end), le-leb _ _ (says .within), le-leb _ _ (says .near))
 
 -- where the head of a buffer was written first, and then the part after it, both stand at its front
 two-parts : (head body before now part : List ℕ) (at size : ℕ) → length head ≡ at → now ≡ head ++ drop at before
@@ -90,10 +103,15 @@ module _ (sender : Sender) (payload before : List ℕ) where
         seal-10 last = simp (good, ne-eqb _ _ some, le-ltb _ _ most, eq-eqb _ _ last)
 
         module _ (more : sender .next ≡ end → ⊥) where
-          pub seal-4 : length before < length payload + 6 → first (sealOrder sender payload before) ≡ 4
+          pub seal-13 : sender .reserved ≤ sender .next → first (sealOrder sender payload before) ≡ 13
           unfolding first sealOrder isPayload
-          seal-4 short = simp (good, ne-eqb _ _ some, le-ltb _ _ most, ne-eqb _ _ more, lt-ltb _ _ short)
+          seal-13 used = simp (good, ne-eqb _ _ some, le-ltb _ _ most, ne-eqb _ _ more, le-leb _ _ used)
 
-          pub seal-0 : length payload + 6 ≤ length before → first (sealOrder sender payload before) ≡ 0
-          unfolding first sealOrder isPayload
-          seal-0 room = simp (good, ne-eqb _ _ some, le-ltb _ _ most, ne-eqb _ _ more, le-ltb _ _ room)
+          module _ (below : sender .next < sender .reserved) where
+            pub seal-4 : length before < length payload + 6 → first (sealOrder sender payload before) ≡ 4
+            unfolding first sealOrder isPayload
+            seal-4 short = simp (good, ne-eqb _ _ some, le-ltb _ _ most, ne-eqb _ _ more, lt-leb _ _ below, lt-ltb _ _ short)
+
+            pub seal-0 : length payload + 6 ≤ length before → first (sealOrder sender payload before) ≡ 0
+            unfolding first sealOrder isPayload
+            seal-0 room = simp (good, ne-eqb _ _ some, le-ltb _ _ most, ne-eqb _ _ more, lt-leb _ _ below, le-ltb _ _ room)

@@ -6,18 +6,28 @@ ghost use Prim.Native.Nat.{_+_, _≤_, _<_};
 ghost use lib.ListN.{length};
 ghost use Rattle.refusals.specs.Call.{Answered, front};
 ghost use Rattle.link.specs.Link.{linkCanArise, frameAt};
-ghost use Rattle.sender.specs.Sender.{openSenderCall, senderCanArise, sealCall};
+ghost use Rattle.sender.specs.Sender.{openSenderCall, senderCanArise, isReservation, reserveCall, sealCall};
 use frames::Header;
 use link::Link;
 
-// The sending end, with the number of its next frame.
+// How far above the next number a reservation may lie.
+pub const AHEAD: u32 = 64;
+
+// The sending end, with the number of its next frame and its reservation: it seals only numbers below that.
 pub struct Sender {
     pub link: Link,
     pub next: u32,
+    pub reserved: u32,
 }
 
-// The answer to opening a sender.
+// The answer to opening a sender, or to making one from its stored form.
 pub struct OpenedSender {
+    pub refusal: u8,
+    pub sender: Sender,
+}
+
+// The answer to telling a sender a reservation.
+pub struct Reserved {
     pub refusal: u8,
     pub sender: Sender,
 }
@@ -30,7 +40,7 @@ pub struct Sealed {
     pub sender: Sender,
 }
 
-// Opens a sender, whose first frame has number 0.
+// Opens a sender, whose first frame has number 0. It seals nothing until it is told a reservation.
 pub fn open_sender(key: &[u8], iov: u32, sapi: u8, direction: u8) -> OpenedSender
     ensures { λ r. ⌜ Answered (openSenderCall (now (key .entry)) iov sapi direction) (r .refusal) [] (r .sender) ⌝ }
 {
@@ -38,16 +48,64 @@ pub fn open_sender(key: &[u8], iov: u32, sapi: u8, direction: u8) -> OpenedSende
     let link = opened.link;
     OpenedSender {
         refusal: opened.refusal,
-        sender: Sender { link, next: 0 },
+        sender: Sender {
+            link,
+            next: 0,
+            reserved: 0,
+        },
     }
 }
 
 // A sender that can arise.
-fn can_arise(sender: Sender) -> bool
+pub fn can_arise(sender: Sender) -> bool
     ensures { λ r. ⌜ r ≡ senderCanArise sender ⌝ }
 {
     let link = sender.link;
-    link::can_arise(link) & (sender.next <= numbering::END)
+    let next = sender.next;
+    let reserved = sender.reserved;
+    if numbering::END < reserved {
+        return false;
+    }
+    if reserved < next {
+        return false;
+    }
+    link::can_arise(link) & (reserved - next <= AHEAD)
+}
+
+// A reservation that a sender may be told: not lower than its present one, not too far above its next number, and not past the end.
+fn is_reservation(sender: Sender, reserved: u32) -> bool
+    requires { ⌜ senderCanArise sender ≡ true ⌝ }
+    ensures { λ r. ⌜ r ≡ isReservation sender reserved ⌝ }
+{
+    (sender.reserved <= reserved)
+        & ((reserved <= sender.next + AHEAD) & (reserved <= numbering::END))
+}
+
+// Tells a sender the reservation that was stored last, before another is stored.
+pub fn reserve(sender: Sender, reserved: u32) -> Reserved
+    ensures { λ r. ⌜ Answered (reserveCall sender reserved) (r .refusal) [] (r .sender) ⌝ }
+{
+    if !can_arise(sender) {
+        return Reserved {
+            refusal: refusals::STATE,
+            sender,
+        };
+    }
+    if !is_reservation(sender, reserved) {
+        return Reserved {
+            refusal: refusals::RANGE,
+            sender,
+        };
+    }
+    let link = sender.link;
+    Reserved {
+        refusal: 0,
+        sender: Sender {
+            link,
+            next: sender.next,
+            reserved,
+        },
+    }
 }
 
 fn not_sealed(sender: Sender, refusal: u8) -> Sealed
@@ -77,7 +135,7 @@ fn write_frame(link: Link, number: u32, payload: &[u8], output: &mut [u8])
     link::cipher(link, number, payload, &mut output[frames::HEADER_SIZE..end]);
 }
 
-// Seals a payload into the frame of the sender's next number.
+// Seals a payload into the frame of the sender's next number, which has to be below the reservation.
 pub fn seal(sender: Sender, payload: &[u8], output: &mut [u8]) -> Sealed
     ensures { λ r. ⌜ Answered (sealCall sender (now (payload .entry)) (now (output .entry))) (r .refusal) (r .number ∷ r .size ∷ []) (record { sender = r .sender; output = now (output .exit) }) ⌝ }
 {
@@ -94,10 +152,15 @@ pub fn seal(sender: Sender, payload: &[u8], output: &mut [u8]) -> Sealed
     if number == numbering::END {
         return not_sealed(sender, refusals::END);
     }
+    let reserved = sender.reserved;
+    if reserved <= number {
+        return not_sealed(sender, refusals::RESERVE);
+    }
     let link = sender.link;
     let later = Sender {
         link,
         next: number + 1,
+        reserved,
     };
     let size = payload.len() + frames::HEADER_SIZE;
     if output.len() < size {

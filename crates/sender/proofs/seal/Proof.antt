@@ -11,7 +11,7 @@ use denote.Ref.{now}
 use Rattle.numbering.specs.Numbering.{end}
 use Rattle.sender.specs.declared.Sender.{Sender}
 use Rattle.sender.specs.Sender.{senderCanArise, afterFrame}
-use Rattle.sender.proofs.Sealing.{sender-says, seal-refused, seal-12, seal-3-empty, seal-3-long, seal-10, seal-4, seal-0}
+use Rattle.sender.proofs.Sealing.{sender-says, seal-refused, seal-12, seal-3-empty, seal-3-long, seal-10, seal-13, seal-4, seal-0}
 use Rattle.sender.proofs.seal.Statement.{statement}
 use Rattle.sender.proofs.seal.Tie as tie
 
@@ -78,44 +78,60 @@ returns-4 c =
     (eqb-false 10 0 refl)
     (c .not-sealed4 .ensures)
 
-add-t11 : tie.Need-add-t11
-unfolding end
-add-t11 c =
-    let at : tie.Else1 = c .before .before .before .before in
-    omega (arith, sender-says (sender at) (good at) .1)
-
-add-size : tie.Need-add-size
-add-size c = search needs
-
 not-sealed-requires-5 : tie.Need-not-sealed-requires-5
 not-sealed-requires-5 c κs = search needs
 
 returns-5 : tie.Need-returns-5
 unfolding end
 returns-5 c =
-    let sized : tie.Else3 = c .before .before .before .before in
+    let sized : tie.Else3 = c .before .before .before in
     let at : tie.Else1 = sized .before .before in
-    seal-refused (sender at) (payload at) (before at) 4 (c .not-sealed5 .result)
-    (seal-4 (sender at) (payload at) (before at) (good at) (sized .before .if2 .left) (sized .if3 .left) (c .before .before .before .if4 .left) (c .before .if5 .taken))
-    (eqb-false 4 0 refl)
+    seal-refused (sender at) (payload at) (before at) 13 (c .not-sealed5 .result)
+    (seal-13 (sender at) (payload at) (before at) (good at) (sized .before .if2 .left) (sized .if3 .left) (c .before .before .if4 .left) (c .before .if5 .taken))
+    (eqb-false 13 0 refl)
     (c .not-sealed5 .ensures)
+
+add-t12 : tie.Need-add-t12
+unfolding end
+add-t12 c =
+    let at : tie.Else1 = c .before .before .before .before .before in
+    let says = sender-says (sender at) (good at) in
+    omega (arith, says .within, says .before-end)
+
+add-size : tie.Need-add-size
+add-size c = search needs
+
+not-sealed-requires-6 : tie.Need-not-sealed-requires-6
+not-sealed-requires-6 c κs = search needs
+
+returns-6 : tie.Need-returns-6
+unfolding end
+returns-6 c =
+    let ahead : tie.Else5 = c .before .before .before in
+    let sized : tie.Else3 = ahead .before .before in
+    let at : tie.Else1 = sized .before .before in
+    seal-refused (sender at) (payload at) (before at) 4 (c .not-sealed6 .result)
+    (seal-4 (sender at) (payload at) (before at) (good at) (sized .before .if2 .left) (sized .if3 .left) (ahead .before .if4 .left) (ahead .if5 .left) (c .before .if6 .taken))
+    (eqb-false 4 0 refl)
+    (c .not-sealed6 .ensures)
 
 write-frame-requires : tie.Need-write-frame-requires
 write-frame-requires c κs =
-    let at : tie.Else1 = c .before .before .before .before .before .before in
-    (sender-says (sender at) (good at) .0, (omega arith, (omega arith, omega arith)))
+    let at : tie.Else1 = c .before .before .before .before .before .before .before in
+    (sender-says (sender at) (good at) .link-can, (omega arith, (omega arith, omega arith)))
 
 same-length : tie.Need-same-length
 same-length c = search needs
 
-returns-6 : tie.Need-returns-6
+returns-7 : tie.Need-returns-7
 unfolding end afterFrame
-returns-6 c =
-    let roomy : tie.Else5 = c .before .before .before .before in
-    let sized : tie.Else3 = roomy .before .before .before in
+returns-7 c =
+    let roomy : tie.Else6 = c .before .before .before .before in
+    let ahead : tie.Else5 = roomy .before .before in
+    let sized : tie.Else3 = ahead .before .before in
     let at : tie.Else1 = sized .before .before in
     record {
-      refusal-is = sym (seal-0 (sender at) (payload at) (before at) (good at) (sized .before .if2 .left) (sized .if3 .left) (roomy .before .before .if4 .left) (roomy .if5 .left));
+      refusal-is = sym (seal-0 (sender at) (payload at) (before at) (good at) (sized .before .if2 .left) (sized .if3 .left) (ahead .before .if4 .left) (ahead .if5 .left) (roomy .if6 .left));
       numbers-are = refl;
       lent-is = λ i. record { sender = afterFrame (sender at); output = c .before .before .write-frame .ensures i };
     }
@@ -133,10 +149,12 @@ seal-spec =
     returns-3
     not-sealed-requires-4
     returns-4
-    add-t11
-    add-size
     not-sealed-requires-5
     returns-5
+    add-t12
+    add-size
+    not-sealed-requires-6
+    returns-6
     write-frame-requires
     same-length
-    returns-6)
+    returns-7)
