@@ -89,10 +89,10 @@ module _ (w : ℕ) (wide : 0 < w) (narrow : w ≤ 512) (receiver : Receiver) (oc
       sym (frame-of-octets octets each (its .numbered .passes-look))
       ∙ ap₂ frame (sym header-is) (sym (ap (ciphered (receiver .link) number) taken ∙ ciphered-twice (receiver .link) number (payloadOf octets)))
 
-  moved : later ≡ afterAccepting w receiver number
+  pub moved : later ≡ afterAccepting w receiver number
   moved = ap (λ (l : Opening). l .receiver) (answered .lent-is) ∙ ap (afterAccepting w receiver) (sym number-is)
 
-  opened-by-the-rule : OpenedByTheRule w receiver octets before number size later after
+  pub opened-by-the-rule : OpenedByTheRule w receiver octets before number size later after
   unfolding afterAccepting front
   opened-by-the-rule =
       let numbering-is : later .numbering ≡ accepted w (receiver .numbering) number = ap (λ (r : Receiver). r .numbering) moved in
@@ -141,10 +141,12 @@ by-the-rule w wide narrow = record {
       record {
         number-is = done .number-is;
         before-end = omega (arith, done .number-is, done .before-end);
+        reserved-above = omega (arith, done .number-is, done .below);
         size-is = done .size-is;
         frame-is = ap (take size) (done .output-is) ∙ take-at whole (drop (length whole) before) size long ∙ ap (λ (n : ℕ). frameAt (sender .link) n payload) (sym (done .number-is));
         past = ap (drop size) (done .output-is) ∙ drop-at whole (drop (length whole) before) size long ∙ ap (λ (k : ℕ). drop k before) long;
         next-is = ap (λ (s : Sender). s .next) (done .later-is) ∙ ap (λ (n : ℕ). n + 1) (sym (done .number-is));
+        reserved-is = ap (λ (s : Sender). s .reserved) (done .later-is);
         link-is = ap (λ (s : Sender). s .link) (done .later-is);
       };
   opened = λ receiver octets before each answered. opened-by-the-rule w wide narrow receiver octets before each answered;

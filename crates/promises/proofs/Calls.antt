@@ -17,8 +17,10 @@ use Rattle.milenage.specs.Calls.{opcOrder, codeOrder, resultOrder}
 use Rattle.numbering.specs.Numbering.{candidateOrder, numberOrder}
 use Rattle.frames.specs.Frame.{lookOrder, headerOrder}
 use Rattle.link.specs.Link.{linkOrder, cipherOrder}
-use Rattle.sender.specs.Sender.{sealOrder}
+use Rattle.sender.specs.Sender.{reserveOrder, sealOrder}
 use Rattle.receiver.specs.Receiver.{openOrder}
+use Rattle.stored.specs.Form.{formOrder}
+use Rattle.stored.specs.Ends.{storeSenderOrder, restoreSenderOrder, storeReceiverOrder, restoreReceiverOrder}
 use Rattle.lines.specs.Digits.{digitsOrder}
 use Rattle.lines.specs.Text.{roomOrder, hexOrder}
 use Rattle.promises.specs.Calls.{publicCalls}
@@ -51,9 +53,9 @@ abbrev IsOrder : (Lent : Type 0) → Call Lent → Type 0
 IsOrder Lent call = T (isOrder (call .order))
 
 orders : All (Always IsOrder) publicCalls
-unfolding cutOrder xorOrder kasumiOrder expandKeyOrder aesOrder kgcoreOrder keyOrder a5Order gea4Order f8Order f9Order opcOrder codeOrder resultOrder candidateOrder numberOrder lookOrder headerOrder linkOrder cipherOrder sealOrder openOrder digitsOrder roomOrder hexOrder
+unfolding cutOrder xorOrder kasumiOrder expandKeyOrder aesOrder kgcoreOrder keyOrder a5Order gea4Order f8Order f9Order opcOrder codeOrder resultOrder candidateOrder numberOrder lookOrder headerOrder linkOrder cipherOrder reserveOrder sealOrder openOrder formOrder storeSenderOrder restoreSenderOrder storeReceiverOrder restoreReceiverOrder digitsOrder roomOrder hexOrder
 orders =
-    tt ⊗ tt ⊗ tt ⊗ in4 ⊗ in3 ⊗ tt ⊗ in1 ⊗ tt ⊗ in2 ⊗ in1 ⊗ tt ⊗ in3 ⊗ in4 ⊗ in1 ⊗ in3 ⊗ in3 ⊗ in5 ⊗ in5 ⊗ in4 ⊗ in5 ⊗ in3 ⊗ in6 ⊗ in6 ⊗ in4 ⊗ in4 ⊗ in4 ⊗ in4 ⊗ in4 ⊗ tt ⊗ tt ⊗ in2 ⊗ tt ⊗ in1 ⊗ tt ⊗ in3 ⊗ tt ⊗ in4 ⊗ in4 ⊗ in4 ⊗ in3 ⊗ in4 ⊗ in3 ⊗ in1 ⊗ in1 ⊗ in2 ⊗ in2 ⊗ in2 ⊗ in2 ⊗ tt ⊗ tt ⊗ tt ⊗ tt ⊗ tt
+    tt ⊗ tt ⊗ tt ⊗ in4 ⊗ in3 ⊗ tt ⊗ in1 ⊗ tt ⊗ in2 ⊗ in1 ⊗ tt ⊗ in3 ⊗ in4 ⊗ in1 ⊗ in3 ⊗ in3 ⊗ in5 ⊗ in5 ⊗ in4 ⊗ in5 ⊗ in3 ⊗ in6 ⊗ in6 ⊗ in4 ⊗ in4 ⊗ in4 ⊗ in4 ⊗ in4 ⊗ tt ⊗ tt ⊗ in2 ⊗ tt ⊗ in1 ⊗ tt ⊗ in3 ⊗ tt ⊗ in4 ⊗ in4 ⊗ in4 ⊗ tt ⊗ in2 ⊗ in3 ⊗ in4 ⊗ tt ⊗ in3 ⊗ in3 ⊗ in2 ⊗ in1 ⊗ in1 ⊗ in1 ⊗ in1 ⊗ in2 ⊗ in2 ⊗ in2 ⊗ in2 ⊗ tt ⊗ tt ⊗ tt ⊗ tt ⊗ tt
 
 pub all-answer : All (Always (λ Lent call. Answers call)) publicCalls
 all-answer = of-all (λ Lent call order. answers call order) publicCalls orders

@@ -28,8 +28,7 @@ use Rattle.receiver.proofs.Opening.{open-looked}
 use Rattle.receiver.proofs.Laws.{open-new, open-repeat, open-no-room}
 use Rattle.promises.specs.Ends.{SealCall, OpenCall, SentFrame, withSealed, Sends, no-more, seal, IsOneOf, Events, arrival, refused, arrivals, AllInWindow, benchSending, benchReceiving}
 use Rattle.promises.specs.Examples.{RunOf, Misread, Shown, AlwaysShown}
-use Rattle.promises.proofs.Sending.{senders-half}
-use Rattle.promises.proofs.BenchLaws.{bench-sending}
+use Rattle.promises.proofs.BenchLaws.{bench-half}
 use Rattle.promises.proofs.ShortKeys.{receiver-same}
 use Rattle.promises.proofs.SealingAgain.{opening-allowed, sender-opens, sent-at, sent-from, one-from, good-sender, sends-from}
 use Rattle.promises.proofs.Misread.{turn-not-on-air, outside}
@@ -40,9 +39,9 @@ module _ (key : List ℕ) (iov sapi direction : ℕ) (valid : isKey key ≡ true
   abbrev link : Link
   link = linkOf key iov sapi direction
 
-  -- its sender with next number n, and its receiver with a numbering
+  -- its sender with next number n, all that it was told used up, and its receiver with a numbering
   abbrev sender-at : ℕ → Sender
-  sender-at n = senderOf link n
+  sender-at n = senderOf link n n
 
   abbrev receiver-at : Numbering → Receiver
   receiver-at numbering = receiverOf link numbering
@@ -69,7 +68,7 @@ module _ (key : List ℕ) (iov sapi direction : ℕ) (valid : isKey key ≡ true
 
   seals-nothing : benchSending .Seals (sender-at 0) empty-call (sender-at 0)
   seals-nothing =
-      refused-with (sealCall (sender-at 0) [] []) 3 (seal-3-empty (sender-at 0) [] [] (good-sender link [] link-good 0 zero-le) refl) (eqb-false 3 0 refl)
+      refused-with (sealCall (sender-at 0) [] []) 3 (seal-3-empty (sender-at 0) [] [] (good-sender link [] link-good 0 0 zero-le zero-le zero-le) refl) (eqb-false 3 0 refl)
 
   -- 962 frames, after a refused call
   abbrev frames : List SentFrame
@@ -83,7 +82,7 @@ module _ (key : List ℕ) (iov sapi direction : ℕ) (valid : isKey key ≡ true
   one-of n below = subst (λ (m : ℕ). IsOneOf (sent-frame m) frames) {x = 0 + n} (omega arith) (one-from link payload 0 962 n below)
 
   octets-are : (n : ℕ) → n < 962 → frameAt link n payload ≡ sent-frame n .octets
-  octets-are n below = sym (senders-half frameAt benchSending bench-sending all-sent .each-is (sent-frame n) (one-of n below) .octets-are)
+  octets-are n below = sym (bench-half all-sent .each-is (sent-frame n) (one-of n below) .octets-are)
 
   -- ---- the receiver
 

@@ -6,6 +6,7 @@ use Rattle.link.specs.Link.{linkCanArise, openLinkCall}
 use Rattle.link.proofs.Links.{no-link}
 use Rattle.sender.specs.Sender.{newSender, openSenderCall, senderCanArise}
 use Rattle.receiver.specs.Receiver.{newReceiver, openReceiverCall, receiverCanArise}
+use Rattle.stored.specs.Ends.{restoreSenderCall, restoreReceiverCall}
 use Rattle.promises.specs.Promise1.{Promise1}
 use Rattle.promises.proofs.Calls.{all-answer}
 
@@ -21,5 +22,11 @@ promise-1 = record {
       (none, ap senderCanArise none ∙ rw no-link);
   no-receiver = λ key iov sapi direction answered some.
       let none = refused-keeps (openReceiverCall key iov sapi direction) answered some in
+      (none, ap (receiverCanArise width) none ∙ rw no-link);
+  no-restored-sender = λ octets answered some.
+      let none = refused-keeps (restoreSenderCall octets) answered some in
+      (none, ap senderCanArise none ∙ rw no-link);
+  no-restored-receiver = λ octets answered some.
+      let none = refused-keeps (restoreReceiverCall width octets) answered some in
       (none, ap (receiverCanArise width) none ∙ rw no-link);
 }

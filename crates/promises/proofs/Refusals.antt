@@ -1,10 +1,10 @@
--- The refusals of sealing and opening in the paper's words: 12 of both; 9, 10, 11 and 4 of opening, for every width up to 512. Assumes nothing.
+-- The refusals of the link's calls in the paper's words: 12 of every call that is given an end or a form of one; 9, 10, 11 and 4 of opening, for every width up to 512. Assumes nothing.
 use Prim.Native.Nat.{ℕ, zero, suc, _≤_, _<_}
 use native.Mathlib.Omega.{arith}
 use mathlib.Core.Path.{_≡_, refl, sym, ap, subst, _∙_}
 use mathlib.Core.Logic.{_↔_, _⊎_, inl, inr}
 use mathlib.Core.Bool.{Bool, true, false, not, true≢false}
-use mathlib.Core.List.{List, [], _∷_}
+use mathlib.Core.List.{List, [], _∷_, _++_}
 use borrow.Author.Tests.{ltb-true, lt-ltb, leb-false, lt-leb, not-true, not-false}
 use lib.Dec.{lit<}
 use lib.ListN.{length}
@@ -17,11 +17,14 @@ use Rattle.numbering.specs.Numbering.{end, Candidate, candidate, isBelow0, isPa
 use Rattle.numbering.proofs.Candidate.{by-the-paper}
 use Rattle.frames.specs.Frame.{AreOctets, headerOf, payloadOf, lookOrder}
 use Rattle.frames.proofs.ReadBack.{header-of-range}
-use Rattle.sender.specs.Sender.{senderCanArise, sealOrder, sealCall}
-use Rattle.sender.proofs.Arising.{sender-cannot-arise-iff, sender-arises-iff}
+use Rattle.sender.specs.Sender.{senderCanArise, reserveOrder, reserveCall, sealOrder, sealCall}
+use Rattle.sender.proofs.Causes.{sender-cannot-arise-iff}
 use Rattle.receiver.specs.declared.Receiver.{Receiver}
 use Rattle.receiver.specs.Receiver.{Opening, receiverCanArise, candidateOf, openOrder, openCall}
-use Rattle.receiver.proofs.Arising.{receiver-cannot-arise-iff, receiver-arises-iff}
+use Rattle.receiver.proofs.Causes.{receiver-cannot-arise-iff}
+use Rattle.stored.specs.Form.{formOrder}
+use Rattle.stored.specs.Ends.{senderIn, receiverIn, storeSenderOrder, storeSenderCall, restoreSenderOrder, restoreSenderCall, storeReceiverOrder, storeReceiverCall, restoreReceiverOrder, restoreReceiverCall}
+use Rattle.stored.proofs.Arising.{sender-arises-iff, receiver-arises-iff}
 use Rattle.promises.specs.ByTheRule.{IsNumbered, IsNumberedAs, StateRefusal, OpenRefusals}
 
 both-ways : {A B C : Type 0} → A ↔ B → B ↔ C → A ↔ C
@@ -43,13 +46,46 @@ never-arises {Cannot} can cannot arises = (
   (λ never. by-test can Cannot (λ good. absurd (never (arises .0 good))) (λ bad. cannot .0 bad)),
 )
 
+-- the last row of restoring is the first that holds where the form is one and the end that it says cannot arise
+last-cause : (words : ℕ) (octets : List ℕ) (can : Bool) {refusal : ℕ} → ThenAndOnlyThen (formOrder 1 words octets ++ (record { number = 12; holds = not can } ∷ [])) refusal
+    → (refusal ≡ 12) ↔ ((first (formOrder 1 words octets) ≡ 0) × (can ≡ false))
+unfolding formOrder rowAt first
+last-cause words octets can exactly =
+    both-ways (exactly .each 2 (lit< tt)) (
+      (λ at. (simp (at .none-before 0 (lit< tt), at .none-before 1 (lit< tt)), not-true can (at .here))),
+      (λ says. record { here = rw (says .1); none-before = none-before (says .0) }),
+    )
+  where
+    rows : first (formOrder 1 words octets) ≡ 0 → (k : ℕ) → rowAt (formOrder 1 words octets) k .holds ≡ false
+    rows nothing = then-and-only-then (formOrder 1 words octets) tt 0 (sym nothing) .none .0 refl
+
+    none-before : first (formOrder 1 words octets) ≡ 0 → (k : ℕ) → k < 2 → rowAt (formOrder 1 words octets ++ (record { number = 12; holds = not can } ∷ [])) k .holds ≡ false
+    none-before nothing zero below = rows nothing 0
+    none-before nothing (suc zero) below = rows nothing 1
+    none-before nothing (suc (suc k)) below = absurd (omega arith)
+
+-- and in the table's words
+cannot-of : {A B C : Type 0} → B ↔ C → (A × B) ↔ (A × C)
+cannot-of iff = ((λ both. (both .0, iff .0 (both .1))), (λ both. (both .0, iff .1 (both .1))))
+
 pub state-refusal : (w : ℕ) → 0 < w → StateRefusal w
-unfolding sealOrder openOrder lookOrder candidateOrder
+unfolding sealOrder openOrder lookOrder candidateOrder reserveOrder storeSenderOrder storeReceiverOrder restoreSenderOrder restoreReceiverOrder formOrder
 state-refusal w wide = record {
   sealing = λ sender payload before answered.
       both-ways (first-cause (senderCanArise sender) _ (determined (sealCall sender payload before) tt .refuses answered)) (sender-cannot-arise-iff sender);
   opening = λ receiver octets before answered.
       both-ways (first-cause (receiverCanArise w receiver) _ (determined (openCall w receiver octets before) tt .refuses answered)) (receiver-cannot-arise-iff w receiver);
+  telling = λ sender reserved answered.
+      both-ways (first-cause (senderCanArise sender) _ (determined (reserveCall sender reserved) tt .refuses answered)) (sender-cannot-arise-iff sender);
+  storing-sender = λ sender reserved before answered.
+      both-ways (first-cause (senderCanArise sender) _ (determined (storeSenderCall sender reserved before) tt .refuses answered)) (sender-cannot-arise-iff sender);
+  storing-receiver = λ receiver before answered.
+      both-ways (first-cause (receiverCanArise w receiver) _ (determined (storeReceiverCall w receiver before) tt .refuses answered)) (receiver-cannot-arise-iff w receiver);
+  restoring-sender = λ octets answered.
+      both-ways (last-cause 1 octets (senderCanArise (senderIn octets)) (determined (restoreSenderCall octets) tt .refuses answered)) (cannot-of (sender-cannot-arise-iff (senderIn octets)));
+  restoring-receiver = λ octets answered.
+      both-ways (last-cause 2 octets (receiverCanArise w (receiverIn octets)) (determined (restoreReceiverCall w octets) tt .refuses answered))
+      (cannot-of (receiver-cannot-arise-iff w (receiverIn octets)));
   senders = λ sender sixteen. never-arises (senderCanArise sender) (sender-cannot-arise-iff sender) (sender-arises-iff sender sixteen);
   receivers = λ narrow receiver sixteen.
       never-arises (receiverCanArise w receiver) (receiver-cannot-arise-iff w receiver) (receiver-arises-iff w wide narrow receiver sixteen);

@@ -1,8 +1,8 @@
--- The sender's half of promise 3, of every sending end that keeps three laws: each sealed frame is the frame of its number with its payload on the
+-- The sender's half of promise 3, of every sending end that keeps three laws, from each of its good states on: each sealed frame is the frame of its number with its payload on the
 -- link, and the numbers only rise, whatever calls were refused and whatever other steps were taken in between. Assumes nothing.
 use Prim.Native.Nat.{ℕ, _+_, _≤_, _<_}
 use native.Mathlib.Omega.{arith}
-use mathlib.Core.Path.{_≡_, refl, ap, subst, _∙_}
+use mathlib.Core.Path.{_≡_, refl, sym, ap, subst, _∙_}
 use mathlib.Core.List.{List, _∷_}
 use borrow.Author.Tests.{eqb-true, eqb-false}
 use lib.Dec.{eqb}
@@ -24,13 +24,15 @@ pub record Stepped (link link-later : Link) (next next-later : ℕ) : Type 0 whe
   pub not-lower : next ≤ next-later
   pub link-is : link-later ≡ link
 
--- the laws of a sending end: its next number, and what a seal, a refused one and another step do
-pub record SendingLaws (frameOf : Link → ℕ → List ℕ → List ℕ) (sending : Sending) : Type 0 where
+-- the laws of a sending end: its next number; which states are good for the rest; and what a seal, a refused one and another step do
+pub record SendingLaws (frameOf : Link → ℕ → List ℕ → List ℕ) (sending : Sending) : Type 1 where
   pub next : sending .State → ℕ
-  pub sealed : {state later : sending .State} (call : SealCall) → sending .Seals state call later → call .refusal ≡ 0
-      → Sealed frameOf (sending .link state) (sending .link later) (next state) (next later) call
+  pub IsGood : sending .State → Type 0
+  pub sealed : {state later : sending .State} (call : SealCall) → IsGood state → sending .Seals state call later → call .refusal ≡ 0
+      → Sealed frameOf (sending .link state) (sending .link later) (next state) (next later) call × IsGood later
   pub refused : {state later : sending .State} (call : SealCall) → sending .Seals state call later → (call .refusal ≡ 0 → ⊥) → later ≡ state
-  pub stepped : {state later : sending .State} → sending .Steps state later → Stepped (sending .link state) (sending .link later) (next state) (next later)
+  pub stepped : {state later : sending .State} → IsGood state → sending .Steps state later
+      → Stepped (sending .link state) (sending .link later) (next state) (next later) × IsGood later
 
 -- the frames with one more, or without it where it was refused
 with-sealed : (P : List SentFrame → Type 0) (call : SealCall) (rest : List SentFrame) → (call .refusal ≡ 0 → P (frameSealed call ∷ rest)) → ((call .refusal ≡ 0 → ⊥) → P rest)
@@ -47,40 +49,57 @@ record OfLink (frameOf : Link → ℕ → List ℕ → List ℕ) (link : Link) (
   not-below : low ≤ frame .number
 
 module _ (frameOf : Link → ℕ → List ℕ → List ℕ) (sending : Sending) (laws : SendingLaws frameOf sending) where
-  each-of-link : (link : Link) (low : ℕ) {state last : sending .State} {frames : List SentFrame} → sending .link state ≡ link → low ≤ laws .next state
+  -- a refused seal leaves a good state
+  kept-good : {state later : sending .State} (call : SealCall) → laws .IsGood state → sending .Seals state call later → (call .refusal ≡ 0 → ⊥) → laws .IsGood later
+  kept-good call good seals some = subst (laws .IsGood) (sym (laws .refused call seals some)) good
+
+  each-of-link : (link : Link) (low : ℕ) {state last : sending .State} {frames : List SentFrame} → laws .IsGood state → sending .link state ≡ link → low ≤ laws .next state
       → Sends sending state frames last → Each (OfLink frameOf link low) frames
   unfolding frameSealed
-  each-of-link link low same least no-more = tt
-  each-of-link link low {state} same least (seal {later = later} {rest = rest} call seals sends) =
+  each-of-link link low good same least no-more = tt
+  each-of-link link low {state} good same least (seal {later = later} {rest = rest} call seals sends) =
       with-sealed (Each (OfLink frameOf link low)) call rest
       (λ zero.
-      let made = laws .sealed call seals zero in (
+      let both = laws .sealed call good seals zero in
+      let made = both .0 in (
         record {
           is-frame = subst (λ (l : Link). IsFrame frameOf l (frameSealed call)) same (made .is-frame);
           not-below = omega (arith, made .not-below, least);
         },
-        each-of-link link low (made .link-is ∙ same) (omega (arith, made .not-below, made .moved, least)) sends,
+        each-of-link link low (both .1) (made .link-is ∙ same) (omega (arith, made .not-below, made .moved, least)) sends,
       ))
       (λ some.
       let kept = laws .refused call seals some in
-      each-of-link link low (ap (sending .link) kept ∙ same) (omega (arith, ap (laws .next) kept, least)) sends)
-  each-of-link link low same least (step steps sends) =
-      let taken = laws .stepped steps in
-      each-of-link link low (taken .link-is ∙ same) (omega (arith, taken .not-lower, least)) sends
+      each-of-link link low (kept-good call good seals some) (ap (sending .link) kept ∙ same) (omega (arith, ap (laws .next) kept, least)) sends)
+  each-of-link link low good same least (step steps sends) =
+      let both = laws .stepped good steps in
+      let taken = both .0 in
+      each-of-link link low (both .1) (taken .link-is ∙ same) (omega (arith, taken .not-lower, least)) sends
 
-  all-rising : {state last : sending .State} {frames : List SentFrame} → Sends sending state frames last → Rising frames
+  all-rising : {state last : sending .State} {frames : List SentFrame} → laws .IsGood state → Sends sending state frames last → Rising frames
   unfolding frameSealed
-  all-rising no-more = tt
-  all-rising (seal {later = later} {rest = rest} call seals sends) =
+  all-rising good no-more = tt
+  all-rising good (seal {later = later} {rest = rest} call seals sends) =
       with-sealed Rising call rest
       (λ zero.
-      let made = laws .sealed call seals zero in
-      (all-above (call .number) rest (λ frame of. omega (arith, of .not-below)) (each-of-link (sending .link later) (call .number + 1) refl (omega (arith, made .moved)) sends), all-rising sends))
-      (λ some. all-rising sends)
-  all-rising (step steps sends) = all-rising sends
+      let both = laws .sealed call good seals zero in
+      let made = both .0 in
+      (all-above (call .number) rest (λ frame of. omega (arith, of .not-below)) (each-of-link (sending .link later) (call .number + 1) (both .1) refl (omega (arith, made .moved)) sends), all-rising (both .1) sends))
+      (λ some. all-rising (kept-good call good seals some) sends)
+  all-rising good (step steps sends) = all-rising (laws .stepped good steps .1) sends
 
-  pub senders-half : {state last : sending .State} {frames : List SentFrame} → Sends sending state frames last → SendersHalf frameOf (sending .link state) frames
-  senders-half {state} sends = record {
-    each-is = λ frame one. each-one (OfLink frameOf (sending .link state) 0) (each-of-link (sending .link state) 0 refl (omega arith) sends) one .is-frame;
-    rising = all-rising sends;
+  -- the state at the end is good
+  pub good-last : {state last : sending .State} {frames : List SentFrame} → laws .IsGood state → Sends sending state frames last → laws .IsGood last
+  good-last good no-more = good
+  good-last good (seal {later = later} {last = last} call seals sends) =
+      by-test (eqb (call .refusal) 0) (laws .IsGood last)
+      (λ zero. good-last (laws .sealed call good seals (eqb-true (call .refusal) 0 zero) .1) sends)
+      (λ other. good-last (kept-good call good seals (eqb-false (call .refusal) 0 other)) sends)
+  good-last good (step steps sends) = good-last (laws .stepped good steps .1) sends
+
+  pub senders-half : {state last : sending .State} {frames : List SentFrame} → laws .IsGood state → Sends sending state frames last
+      → SendersHalf frameOf (sending .link state) frames
+  senders-half {state} good sends = record {
+    each-is = λ frame one. each-one (OfLink frameOf (sending .link state) 0) (each-of-link (sending .link state) 0 good refl (omega arith) sends) one .is-frame;
+    rising = all-rising good sends;
   }

@@ -18,9 +18,12 @@ use Rattle.link.specs.declared.Link.{Link}
 use Rattle.link.specs.Input.{inputOf}
 use Rattle.link.specs.Link.{ciphered, frameAt}
 use Rattle.sender.specs.declared.Sender.{Sender}
-use Rattle.sender.specs.Sender.{Sealing, SenderCannotArise, openSenderCall, sealCall, SenderArises}
+use Rattle.sender.specs.Sender.{Sealing, SenderCannotArise, openSenderCall, reserveCall, sealCall}
 use Rattle.receiver.specs.declared.Receiver.{Receiver}
-use Rattle.receiver.specs.Receiver.{Opening, ReceiverCannotArise, receiverCanArise, isOfLink, openReceiverCall, openCall, ReceiverArises}
+use Rattle.receiver.specs.Receiver.{Opening, ReceiverCannotArise, receiverCanArise, isOfLink, openReceiverCall, openCall}
+use Rattle.stored.specs.Form.{formOrder}
+use Rattle.stored.specs.Ends.{senderIn, receiverIn, storeSenderCall, restoreSenderCall, storeReceiverCall, restoreReceiverCall}
+use Rattle.stored.specs.Arising.{SenderArises, ReceiverArises}
 
 -- the link of an end that was opened: it holds the prepared key, and the rest as it was given. So what it ciphers under number n, it ciphers with the
 -- GEA4 octets of the key that it was opened with; these are GEA3's where the key has 8 octets
@@ -31,15 +34,17 @@ pub record HoldsLink (key : List ℕ) (iov sapi direction : ℕ) (link : Link) :
   pub direction-is : link .direction ≡ direction
   pub ciphers : (n : ℕ) (payload : List ℕ) → ciphered link n payload ≡ xored payload (gea4Output key (inputOf iov sapi n) direction (length payload))
 
--- a payload that was sealed: under the next number, which is below 2^27, so that 2^27 - 1 is the last; the whole frame of that number stands at the front
--- of the output, p + 6 octets; the octets past it are kept; and the next number is one more
+-- a payload that was sealed: under the next number, which is below the reservation and below 2^27, so that 2^27 - 1 is the last; the whole frame of that
+-- number stands at the front of the output, p + 6 octets; the octets past it are kept; and the next number is one more
 pub record SealedByTheRule (sender : Sender) (payload before : List ℕ) (number size : ℕ) (later : Sender) (after : List ℕ) : Type 0 where
   pub number-is : number ≡ sender .next
   pub before-end : number < end
+  pub reserved-above : number < sender .reserved
   pub size-is : size ≡ length payload + 6
   pub frame-is : take size after ≡ frameAt (sender .link) number payload
   pub past : drop size after ≡ drop size before
   pub next-is : later .next ≡ number + 1
+  pub reserved-is : later .reserved ≡ sender .reserved
   pub link-is : later .link ≡ sender .link
 
 -- a frame that was opened: its number is the candidate, below 2^27, and was not accepted before; the frame is the frame of that number with the
@@ -69,13 +74,24 @@ pub record IsNumberedAs (w : ℕ) (receiver : Receiver) (octets : List ℕ) (n :
   pub is-candidate : Candidate w (receiver .numbering .next) (headerOf octets .sent) n
   pub before-end : n < end
 
--- refusal 12 of either end: sealing and opening answer it exactly where one of the table's causes holds; and of the ends that hold the 16 octets of a
--- key these are exactly the ones that never arise, by whatever calls: of receivers at a width up to 256, and the link's is 32
+-- refusal 12 of either end: sealing and opening, telling a reservation and storing answer it exactly where one of the table's causes holds, and restoring
+-- exactly where 5 and 6 do not apply and one holds of the end that the form says; and of the ends that hold the 16 octets of a key these are exactly the ones
+-- that never arise, by whatever calls: of receivers at a width up to 256, and the link's is 32
 pub record StateRefusal (w : ℕ) : Type 0 where
   pub sealing : (sender : Sender) (payload before : List ℕ) {refusal number size : ℕ} {lent : Sealing}
       → Answered (sealCall sender payload before) refusal (number ∷ size ∷ []) lent → (refusal ≡ 12) ↔ SenderCannotArise sender
   pub opening : (receiver : Receiver) (octets before : List ℕ) {refusal number size : ℕ} {lent : Opening}
       → Answered (openCall w receiver octets before) refusal (number ∷ size ∷ []) lent → (refusal ≡ 12) ↔ ReceiverCannotArise w receiver
+  pub telling : (sender : Sender) (reserved : ℕ) {refusal : ℕ} {later : Sender} → Answered (reserveCall sender reserved) refusal [] later
+      → (refusal ≡ 12) ↔ SenderCannotArise sender
+  pub storing-sender : (sender : Sender) (reserved : ℕ) (before : List ℕ) {refusal : ℕ} {after : List ℕ} → Answered (storeSenderCall sender reserved before) refusal [] after
+      → (refusal ≡ 12) ↔ SenderCannotArise sender
+  pub storing-receiver : (receiver : Receiver) (before : List ℕ) {refusal : ℕ} {after : List ℕ} → Answered (storeReceiverCall w receiver before) refusal [] after
+      → (refusal ≡ 12) ↔ ReceiverCannotArise w receiver
+  pub restoring-sender : (octets : List ℕ) {refusal : ℕ} {sender : Sender} → Answered (restoreSenderCall octets) refusal [] sender
+      → (refusal ≡ 12) ↔ ((first (formOrder 1 1 octets) ≡ 0) × SenderCannotArise (senderIn octets))
+  pub restoring-receiver : (octets : List ℕ) {refusal : ℕ} {receiver : Receiver} → Answered (restoreReceiverCall w octets) refusal [] receiver
+      → (refusal ≡ 12) ↔ ((first (formOrder 1 2 octets) ≡ 0) × ReceiverCannotArise w (receiverIn octets))
   pub senders : (sender : Sender) → length (sender .link .key) ≡ 16 → SenderCannotArise sender ↔ (SenderArises sender → ⊥)
   pub receivers : w ≤ 256 → (receiver : Receiver) → length (receiver .link .key) ≡ 16 → ReceiverCannotArise w receiver ↔ (ReceiverArises w receiver → ⊥)
 

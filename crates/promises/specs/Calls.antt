@@ -19,8 +19,9 @@ use Rattle.milenage.specs.Calls.{opcCall, f1Call, f1StarCall, f2Call, f3Call, f
 use Rattle.numbering.specs.Numbering.{width, start, canArise, numberCall}
 use Rattle.frames.specs.Frame.{looked, lookRefusalCall, headerOf, putHeaderCall}
 use Rattle.link.specs.Link.{linkCanArise, openLinkCall, cipherCall}
-use Rattle.sender.specs.Sender.{openSenderCall, sealCall}
-use Rattle.receiver.specs.Receiver.{openReceiverCall, openCall}
+use Rattle.sender.specs.Sender.{senderCanArise, openSenderCall, reserveCall, sealCall}
+use Rattle.receiver.specs.Receiver.{receiverCanArise, openReceiverCall, openCall}
+use Rattle.stored.specs.Ends.{storeSenderCall, restoreSenderCall, storeReceiverCall, restoreReceiverCall}
 use Rattle.lines.specs.Digits.{decimalCall, hexadecimalCall}
 use Rattle.lines.specs.Text.{octetsOfHexCall, hexOfOctetsCall, decimalOfNumberCall, putTextCall}
 use Rattle.lines.specs.Hearing.{silence, tooLong, kept}
@@ -107,12 +108,26 @@ publicCalls =
     call4 cipherCall ∷
     -- sender::open_sender
     call4 openSenderCall ∷
+    -- sender::can_arise
+    function senderCanArise ∷
+    -- sender::reserve
+    call2 reserveCall ∷
     -- sender::seal
     call3 sealCall ∷
     -- receiver::open_receiver
     call4 openReceiverCall ∷
+    -- receiver::can_arise
+    function (receiverCanArise width) ∷
     -- receiver::open
     call3 (openCall width) ∷
+    -- stored::store_sender
+    call3 storeSenderCall ∷
+    -- stored::store_receiver
+    call2 (storeReceiverCall width) ∷
+    -- stored::restore_sender
+    call1 restoreSenderCall ∷
+    -- stored::restore_receiver
+    call1 (restoreReceiverCall width) ∷
     -- lines::decimal
     call1 decimalCall ∷
     -- lines::hexadecimal

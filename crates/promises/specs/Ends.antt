@@ -1,21 +1,24 @@
--- The ends that promise 3 speaks of: a sender's calls, one after the other, and a receiver's, each given the state that the last one returned. A call is
--- whatever its contract allows. What promise 3 needs of a frame format and of the two ends is said as records; the bench frame and its ends are their
+-- The ends that promise 3 speaks of: a sender's calls, one after the other, and a receiver's, each given the state that the last one returned, or one that
+-- was restored. A call is whatever its contract allows. What promise 3 needs of a frame format and of the two ends is said as records; the bench frame and its ends are their
 -- first use. Assumes nothing.
-use Prim.Native.Nat.{ℕ, _≤_, _<_}
+use Prim.Native.Nat.{ℕ, _^_, _≤_, _<_}
 use mathlib.Core.Path.{_≡_}
 use mathlib.Core.Bool.{cond}
 use mathlib.Core.List.{List, [], _∷_}
 use lib.Dec.{eqb}
 use lib.ListN.{length, take}
 use Rattle.refusals.specs.Call.{Answered}
+use Rattle.octets.specs.Octets.{AreOctets}
 use Rattle.keystreams.specs.Key.{prepared}
 use Rattle.numbering.specs.Numbering.{end, InWindow}
 use Rattle.link.specs.declared.Link.{Link}
 use Rattle.link.specs.Link.{frameAt}
 use Rattle.sender.specs.declared.Sender.{Sender}
-use Rattle.sender.specs.Sender.{openSenderCall, sealCall}
+use Rattle.sender.specs.Sender.{openSenderCall, reserveCall, sealCall}
 use Rattle.receiver.specs.declared.Receiver.{Receiver}
 use Rattle.receiver.specs.Receiver.{openReceiverCall, openCall}
+use Rattle.stored.specs.Form.{formSize}
+use Rattle.stored.specs.Ends.{storeReceiverCall, restoreReceiverCall}
 
 -- one seal call: the payload, the output before, and what came back
 pub record SealCall : Type 0 where
@@ -42,18 +45,21 @@ pub record Sending : Type 1 where
   pub Seals : State → SealCall → State → Type 0
   pub Steps : State → State → Type 0
 
--- a receiving end: its states; the link of a state, and its next number V; and what an open call may do
+-- a receiving end: its states; the link of a state, and its next number V; what an open call may do; and what may come back where a state is stored and
+-- then restored
 pub record Receiving : Type 1 where
   pub State : Type 0
   pub link : State → Link
   pub next : State → ℕ
   pub Opens : State → OpenCall → State → Type 0
+  pub Restores : State → State → Type 0
 
--- a frame format, two ends that use it, a new receiver, and two ends that were opened alike
+-- a frame format, two ends that use it, where a sender may begin, a new receiver, and two ends that were opened alike
 pub record Ends : Type 1 where
   pub frameOf : Link → ℕ → List ℕ → List ℕ
   pub sending : Sending
   pub receiving : Receiving
+  pub Begins : sending .State → Type 0
   pub IsNew : receiving .State → Type 0
   pub OpenedAlike : sending .State → receiving .State → Type 0
 
@@ -125,11 +131,36 @@ arrivals no-more = []
 arrivals (arrival frame call one presented room opens rest) = frame .number ∷ arrivals rest
 arrivals (refused call not-done opens rest) = arrivals rest
 
+-- the numbers that have arrived then, the last one first, after those earlier
+abbrev pub arrivedAfter : {receiving : Receiving} {frames : List SentFrame} {state last : receiving .State} → List ℕ → Events receiving frames state last → List ℕ
+arrivedAfter earlier no-more = earlier
+arrivedAfter earlier (arrival frame call one presented room opens rest) = arrivedAfter (frame .number ∷ earlier) rest
+arrivedAfter earlier (refused call not-done opens rest) = arrivedAfter earlier rest
+
 -- at each arrival the frame's number is in the window of the next number V of that moment: at most w below it and at most 511 - w above it
 abbrev pub AllInWindow : (w : ℕ) {receiving : Receiving} {frames : List SentFrame} {state last : receiving .State} → Events receiving frames state last → Type 0
 AllInWindow w no-more = Unit {0}
 AllInWindow w {receiving} (arrival {state = state} frame call one presented room opens rest) = InWindow w (receiving .next state) (frame .number) × AllInWindow w rest
 AllInWindow w (refused call not-done opens rest) = AllInWindow w rest
+
+-- one more number, where an open call was not refused
+abbrev pub withAccepted : OpenCall → List ℕ → List ℕ
+withAccepted call earlier = cond (eqb (call .refusal) 0) (call .number ∷ earlier) earlier
+
+-- what became of a new receiver, and the numbers that it accepted and that count as arrived there, the last one first. It was presented any octets, the
+-- sender's or not, and opened them or refused them; and it was stored, and restored from that. What it accepted before that store counts; what it accepted
+-- since then, when it is restored, does not
+pub data Since (receiving : Receiving) (first : receiving .State) : receiving .State → List ℕ → Type 0 where
+  nothing : Since receiving first first []
+  called : {state later : receiving .State} {earlier : List ℕ} (call : OpenCall)
+      → Since receiving first state earlier
+      → AreOctets (call .presented)
+      → receiving .Opens state call later
+      → Since receiving first later (withAccepted call earlier)
+  restored : {state later : receiving .State} {earlier : List ℕ}
+      → Since receiving first state earlier
+      → receiving .Restores state later
+      → Since receiving first later earlier
 
 -- ---- the bench frame, its sender and its receiver, whose window has the width w
 
@@ -157,17 +188,34 @@ pub record NewlyOpenedReceiver (receiver : Receiver) : Type 0 where
   pub direction : ℕ
   pub receiver-opened : Answered (openReceiverCall key iov sapi direction) 0 [] receiver
 
--- the sender of the bench: it seals as `sealCall` says, and takes no step but its calls
+-- a sender is told a reservation, any one, and refuses it or not
+pub record Told (sender later : Sender) : Type 0 where
+  pub reserved : ℕ
+  pub refusal : ℕ
+  pub answered : Answered (reserveCall sender reserved) refusal [] later
+
+-- a receiver is stored, and another made from what was stored, as the calls say. A form has 32 marks, so that the window may be no wider; and the offset has
+-- 32 bits, as its type has
+pub record StoredAndRestored (w : ℕ) (receiver later : Receiver) : Type 0 where
+  pub marks-fit : w ≤ 32
+  pub iov-fits : receiver .link .iov < 2 ^ 32
+  pub before : List ℕ
+  pub after : List ℕ
+  pub refusal : ℕ
+  pub stored : Answered (storeReceiverCall w receiver before) 0 [] after
+  pub restored : Answered (restoreReceiverCall w (take (formSize 2) after)) refusal [] later
+
+-- the sender of the bench: it seals as `sealCall` says, and between its calls it is told reservations
 abbrev pub benchSending : Sending
 benchSending = record {
   State = Sender;
   link = λ sender. sender .link;
   Seals = λ sender call later.
       Answered (sealCall sender (call .payload) (call .before)) (call .refusal) (call .number ∷ call .size ∷ []) (record { sender = later; output = call .after });
-  Steps = λ sender later. ⊥;
+  Steps = Told;
 }
 
--- the receiver of the bench: it opens as `openCall` says
+-- the receiver of the bench: it opens as `openCall` says, and may be stored and restored
 abbrev pub benchReceiving : ℕ → Receiving
 benchReceiving w = record {
   State = Receiver;
@@ -175,14 +223,16 @@ benchReceiving w = record {
   next = λ receiver. receiver .numbering .next;
   Opens = λ receiver call later.
       Answered (openCall w receiver (call .presented) (call .before)) (call .refusal) (call .number ∷ call .size ∷ []) (record { receiver = later; output = call .after });
+  Restores = StoredAndRestored w;
 }
 
--- the ends of the bench, which use the bench frame
+-- the ends of the bench, which use the bench frame; of a sender it does not matter where it begins
 abbrev pub benchEnds : ℕ → Ends
 benchEnds w = record {
   frameOf = frameAt;
   sending = benchSending;
   receiving = benchReceiving w;
+  Begins = λ sender. Unit {0};
   IsNew = NewlyOpenedReceiver;
   OpenedAlike = NewlyOpenedEnds;
 }

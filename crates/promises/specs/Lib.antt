@@ -5,10 +5,13 @@ pub mod Calls
 pub mod Challenge
 pub mod Ends
 pub mod Examples
+pub mod Hosts
 pub mod NoInputTwice
 pub mod Promise1
 pub mod Promise2
 pub mod Promise3
+pub mod PulledPlug
 pub mod ShortKeys
+pub mod StoredForms
 pub mod ThirdGeneration
 pub mod WhereItEnds

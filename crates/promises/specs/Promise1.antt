@@ -11,6 +11,7 @@ use Rattle.sender.specs.declared.Sender.{Sender}
 use Rattle.sender.specs.Sender.{newSender, openSenderCall, senderCanArise}
 use Rattle.receiver.specs.declared.Receiver.{Receiver}
 use Rattle.receiver.specs.Receiver.{newReceiver, openReceiverCall, receiverCanArise}
+use Rattle.stored.specs.Ends.{restoreSenderCall, restoreReceiverCall}
 use Rattle.promises.specs.Calls.{publicCalls}
 
 -- promise 1: every public call, whatever it is given, answers; and what is handed back in place of a link or an end is none
@@ -23,4 +24,9 @@ pub record Promise1 : Type 0 where
   pub no-sender : (key : List ℕ) (iov sapi direction : ℕ) {refusal : ℕ} {numbers : List ℕ} {sender : Sender} → Answered (openSenderCall key iov sapi direction) refusal numbers sender
       → (refusal ≡ 0 → ⊥) → (sender ≡ newSender noLink) × (senderCanArise sender ≡ false)
   pub no-receiver : (key : List ℕ) (iov sapi direction : ℕ) {refusal : ℕ} {numbers : List ℕ} {receiver : Receiver} → Answered (openReceiverCall key iov sapi direction) refusal numbers receiver
+      → (refusal ≡ 0 → ⊥) → (receiver ≡ newReceiver noLink) × (receiverCanArise width receiver ≡ false)
+  -- and one that makes an end from a stored form
+  pub no-restored-sender : (octets : List ℕ) {refusal : ℕ} {numbers : List ℕ} {sender : Sender} → Answered (restoreSenderCall octets) refusal numbers sender
+      → (refusal ≡ 0 → ⊥) → (sender ≡ newSender noLink) × (senderCanArise sender ≡ false)
+  pub no-restored-receiver : (octets : List ℕ) {refusal : ℕ} {numbers : List ℕ} {receiver : Receiver} → Answered (restoreReceiverCall width octets) refusal numbers receiver
       → (refusal ≡ 0 → ⊥) → (receiver ≡ newReceiver noLink) × (receiverCanArise width receiver ≡ false)

@@ -8,7 +8,7 @@ use Rattle.refusals.specs.Call.{front}
 use Rattle.numbering.specs.Numbering.{width}
 use Rattle.numbering.specs.History.{isAmong, aboveAll}
 use Rattle.link.specs.declared.Link.{Link}
-use Rattle.promises.specs.Ends.{OpenCall, Receiving, Ends, SentFrame, Sends, IsOneOf, IsFrame, Events, no-more, arrival, refused, arrivals, AllInWindow, benchEnds}
+use Rattle.promises.specs.Ends.{OpenCall, Receiving, Ends, SentFrame, Sends, IsOneOf, IsFrame, Events, no-more, arrival, refused, arrivedAfter, AllInWindow, Since, benchEnds}
 
 -- the receiver hands out a frame: no refusal, its true number, and the sender's payload, which then stands at the front of the output; the octets
 -- past it are kept
@@ -40,10 +40,10 @@ AsPromised {receiving} earlier (arrival {state = state} {later = later} frame ca
 AsPromised earlier (refused {state = state} {later = later} call not-done opens rest) =
     (later ≡ state) × (call .after ≡ call .before) × AsPromised earlier rest
 
--- what the events keep: every answer, and at the end the next number, which is one above the highest that arrived, or 0
-pub record KeptBy {receiving : Receiving} {frames : List SentFrame} {state last : receiving .State} (events : Events receiving frames state last) : Type 0 where
-  pub answered : AsPromised [] events
-  pub next-is : receiving .next last ≡ aboveAll (arrivals events)
+-- what the events keep, after those that arrived earlier: every answer, and at the end the next number, which is one above the highest that arrived, or 0
+pub record KeptBy (earlier : List ℕ) {receiving : Receiving} {frames : List SentFrame} {state last : receiving .State} (events : Events receiving frames state last) : Type 0 where
+  pub answered : AsPromised earlier events
+  pub next-is : receiving .next last ≡ aboveAll (arrivedAfter earlier events)
 
 -- the frames have numbers above n
 abbrev pub AllAbove : ℕ → List SentFrame → Type 0
@@ -61,28 +61,31 @@ pub record SendersHalf (frameOf : Link → ℕ → List ℕ → List ℕ) (link 
   pub rising : Rising frames
 
 -- promise 3, of a window of width w and two ends: whatever the sender seals and whatever of it arrives, within the window, every event gets the answer
--- that was promised
+-- that was promised. It begins with a new receiver, to which nothing has arrived (`nothing`), and it begins anew with each that is restored, and wherever
+-- one likes: the numbers that were accepted, of a restored one before its store, count as arrived
 pub record Promise3 (w : ℕ) (ends : Ends) : Type 0 where
-  -- two ends opened alike; any calls of the sender; any events within the window
-  pub kept : {sender sender-last : ends .sending .State} {receiver receiver-last : ends .receiving .State} {frames : List SentFrame}
+  -- two ends opened alike, and what became of the receiver until now; any calls of the sender; any events within the window
+  pub kept : {sender sender-last : ends .sending .State} {receiver state receiver-last : ends .receiving .State} {earlier : List ℕ} {frames : List SentFrame}
       → ends .OpenedAlike sender receiver
+      → Since (ends .receiving) receiver state earlier
       → Sends (ends .sending) sender frames sender-last
-      → (events : Events (ends .receiving) frames receiver receiver-last)
+      → (events : Events (ends .receiving) frames state receiver-last)
       → AllInWindow w events
-      → KeptBy events
+      → KeptBy earlier events
   -- two frames of a sender with one number are one frame, so that an arrival is told by its number
-  pub told-by-number : {sender sender-last : ends .sending .State} {frames : List SentFrame} → Sends (ends .sending) sender frames sender-last
+  pub told-by-number : {sender sender-last : ends .sending .State} {frames : List SentFrame} → ends .Begins sender → Sends (ends .sending) sender frames sender-last
       → {one other : SentFrame} → IsOneOf one frames → IsOneOf other frames → one .number ≡ other .number → one ≡ other
   -- the halves of which it is made: what a sender seals,
-  pub senders-half : {sender sender-last : ends .sending .State} {frames : List SentFrame} → Sends (ends .sending) sender frames sender-last
+  pub senders-half : {sender sender-last : ends .sending .State} {frames : List SentFrame} → ends .Begins sender → Sends (ends .sending) sender frames sender-last
       → SendersHalf (ends .frameOf) (ends .sending .link sender) frames
-  -- and what a new receiver does with frames of its link, whatever sender made them, lost and skipped numbers included
-  pub receivers-half : {receiver receiver-last : ends .receiving .State} {frames : List SentFrame}
+  -- and what a receiver does with frames of its link, whatever sender made them, lost and skipped numbers included
+  pub receivers-half : {receiver state receiver-last : ends .receiving .State} {earlier : List ℕ} {frames : List SentFrame}
       → ends .IsNew receiver
+      → Since (ends .receiving) receiver state earlier
       → ((frame : SentFrame) → IsOneOf frame frames → IsFrame (ends .frameOf) (ends .receiving .link receiver) frame)
-      → (events : Events (ends .receiving) frames receiver receiver-last)
+      → (events : Events (ends .receiving) frames state receiver-last)
       → AllInWindow w events
-      → KeptBy events
+      → KeptBy earlier events
 
 -- promise 3 of the bench: the window is 32 behind and 479 ahead
 abbrev pub BenchPromise3 : Type 0
