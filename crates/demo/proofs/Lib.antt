@@ -1,4 +1,4 @@
--- The laws of words, columns, the ends and the shelf, what `demo` writes, and an example.
+-- The laws of words, columns, the ends and the shelf, what `demo` writes, and examples.
 pub mod Ends
 pub mod Example
 pub mod Kept

@@ -12,7 +12,8 @@ use Rattle.lines.proofs.Run.{run-writes-answers}
 use Rattle.lines.proofs.Placed.{written-text}
 use Rattle.demo.specs.declared.play.Stage.{Stage}
 use Rattle.demo.specs.declared.play.Play.{Play}
-use Rattle.demo.specs.Acts.{Step, obeyed}
+use Rattle.demo.specs.Step.{Step}
+use Rattle.demo.specs.Acts.{obeyed}
 use Rattle.demo.specs.Play.{answer, after, demoRules, standing, newStage, newPlay, heading, demoOutput}
 use Rattle.demo.proofs.Steps.{long-nothing, long-done}
 

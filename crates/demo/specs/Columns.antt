@@ -15,9 +15,13 @@ use Rattle.demo.specs.Words.{refusalText, whyWords}
 unfoldable pub column : List ℕ → List ℕ
 column text = text ++ drop (length text) (replicate 11 32)
 
--- what the phone's column shows: the number of the frame that it sealed, or why it sealed none
+-- what the phone's column shows where it was to seal: the number of the frame that it sealed, or why it sealed none
 unfoldable pub phoneText : ℕ → ℕ → List ℕ
 phoneText refusal number = cond (eqb refusal 0) (decimalText number) (refusalText refusal)
+
+-- the columns of the phone: what it answers, and its reservation
+unfoldable pub phoneColumns : List ℕ → ℕ → List ℕ
+phoneColumns text reserved = column text ++ column (decimalText reserved)
 
 -- the row of a reason for a bad line
 abbrev pub whyRow : Why → ℕ
@@ -37,7 +41,7 @@ whyText why = quoted (getD whyWords (whyRow why) "")
 unfoldable pub numberText : Bool → ℕ → List ℕ
 numberText given number = cond given (decimalText number) (quoted "-")
 
--- what the cell's answer column shows
+-- what an answer column shows, the cell's, and the phone's where it was to be stored, told or restarted
 unfoldable pub answerText : ℕ → List ℕ
 answerText refusal = cond (eqb refusal 0) (quoted "ok") (refusalText refusal)
 
@@ -59,6 +63,6 @@ unfoldable pub cellColumns : Bool → ℕ → ℕ → ℕ → List ℕ → List 
 cellColumns given refusal number next text =
     column (numberText given number) ++ (column (answerText refusal) ++ (column (decimalText next) ++ textColumn text))
 
--- and where it is handed nothing: only its next number is shown
+-- and where it is asked for nothing: only its next number is shown
 unfoldable pub silentColumns : ℕ → List ℕ
 silentColumns next = column (quoted "-") ++ (column (quoted "-") ++ (column (decimalText next) ++ quoted "-\n"))

@@ -5,17 +5,15 @@ use mathlib.Core.List.{List, _++_}
 use Rattle.lines.specs.Hearing.{silence, Rules, Standing}
 use Rattle.lines.specs.Lines.{linesOf, answers}
 use Rattle.script.specs.Quoted.{quoted}
-use Rattle.sender.specs.Sender.{newSender}
-use Rattle.receiver.specs.Receiver.{newReceiver}
 use Rattle.demo.specs.declared.play.Play.{Play}
 use Rattle.demo.specs.declared.play.Stage.{Stage}
 use Rattle.demo.specs.Columns.{column}
-use Rattle.demo.specs.Ends.{exampleLink, emptyShelf}
+use Rattle.demo.specs.Ends.{newPhone, newCell, emptyShelf}
 use Rattle.demo.specs.Acts.{obeyed}
 
--- the room that an output must have: five columns of eleven octets, a text of at most 46, and the line feed
+-- the room that an output must have: six columns of eleven octets, a text of at most 46, and the line feed
 abbrev pub room : ℕ
-room = 102
+room = 113
 
 -- the answer to a line, and the stage after it
 unfoldable pub answer : Stage → List ℕ → List ℕ
@@ -34,7 +32,7 @@ standing play = record { state = play .stage; heard = play .heard }
 
 -- the stage at the start: both ends newly opened on the same link, and nothing on the shelf
 unfoldable pub newStage : Stage
-newStage = record { phone = newSender exampleLink; cell = newReceiver exampleLink; shelf = emptyShelf }
+newStage = record { phone = newPhone; cell = newCell; shelf = emptyShelf }
 
 -- at the start nothing is heard, and nothing is written
 unfoldable pub newPlay : Play
@@ -44,7 +42,8 @@ newPlay = record { heard = silence; stage = newStage; written = 0 }
 unfoldable pub heading : List ℕ
 heading =
     column (quoted "phone")
-    ++ (column (quoted "box") ++ (column (quoted "number") ++ (column (quoted "answer") ++ (column (quoted "next") ++ quoted "text\n"))))
+    ++ (column (quoted "reserved")
+    ++ (column (quoted "box") ++ (column (quoted "number") ++ (column (quoted "answer") ++ (column (quoted "next") ++ quoted "text\n")))))
 
 -- what is written for a script: the heading, and the answers to its lines
 unfoldable pub demoOutput : List ℕ → List ℕ

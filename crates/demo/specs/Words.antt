@@ -27,7 +27,8 @@ refusalWords =
     "9 start   " ∷
     "10 end    " ∷
     "11 repeat " ∷
-    "12 state  " ∷ []
+    "12 state  " ∷
+    "13 reserve" ∷ []
 
 -- what is shown for a refusal: its row, or the number alone where the table has none for it
 unfoldable pub refusalText : ℕ → List ℕ

@@ -1,19 +1,23 @@
-// What is done for a line of the script: the phone seals, the box passes, loses, keeps or gives, and the cell opens.
+// What is done for a line of the script: the phone seals, the box passes, loses, keeps or gives, and the cell opens. What is done with stores and
+// plugs is the module `plugs`.
 ghost use mathlib.Core.Path.{_≡_};
 ghost use Prim.Native.Nat.{_*_, _≤_, _<_, min};
 ghost use lib.ListN.{length, drop, take};
 ghost use Rattle.script.specs.Quoted.{quoted};
 ghost use Rattle.script.specs.Script.{restOf};
-ghost use Rattle.demo.specs.Ends.{phoneAnswer, phoneAfter, shelved};
+ghost use Rattle.demo.specs.Ends.{phoneAnswer, afterSealing, phoneAfter, shelved};
 ghost use Rattle.demo.specs.Play.{room};
-ghost use Rattle.demo.specs.Acts.{passing, losing, keeping, giving, noising, nothing as Acts·nothing, remarking, obeyed, HandCall, StepCall};
+ghost use Rattle.demo.specs.Step.{StepCall};
+ghost use Rattle.demo.specs.Acts.{passing, losing, keeping, giving, noising, nothing as Acts·nothing, remarking, obeyed, HandCall};
 use crate::columns;
+use crate::hosts;
+use crate::hosts::Cell;
+use crate::hosts::Phone;
 use crate::play::Shelf;
 use crate::play::Stage;
-use receiver::Receiver;
+use crate::plugs;
 use script::Asked;
 use script::Why;
-use sender::Sender;
 
 // The stage after a line, and how many octets its answer has.
 pub(crate) struct Stepped {
@@ -23,22 +27,22 @@ pub(crate) struct Stepped {
 
 // The cell after what it was handed, and where the line that shows its answer ends.
 pub(crate) struct Handed {
-    pub cell: Receiver,
+    pub cell: Cell,
     pub end: usize,
 }
 
 // ---- the phone, the box and the cell
 
 // The phone after sealing a frame that is lost.
-fn lose_one(phone: Sender) -> Sender
-    ensures { λ r. ⌜ r ≡ phoneAnswer phone (quoted "lost") .lent .sender ⌝ }
+fn lose_one(phone: Phone) -> Phone
+    ensures { λ r. ⌜ r ≡ afterSealing phone (phoneAnswer phone (quoted "lost")) ⌝ }
 {
     let mut frame = [0u8; 46];
-    sender::seal(phone, b"lost", &mut frame).sender
+    hosts::seal(phone, b"lost", &mut frame).phone
 }
 
 // The phone after sealing so many of them.
-fn lose_times(phone: Sender, times: u32) -> Sender
+fn lose_times(phone: Phone, times: u32) -> Phone
     ensures { λ r. ⌜ r ≡ phoneAfter times phone ⌝ }
 {
     let mut so_far = phone;
@@ -77,12 +81,12 @@ fn shelve(shelf: Shelf, k: usize, frame: &[u8]) -> Shelf
 }
 
 // Hands octets to the cell, and shows its answer. The number is given with 0 and with two refusals.
-fn hand(cell: Receiver, octets: &[u8], output: &mut [u8]) -> Handed
+fn hand(mut cell: Cell, octets: &[u8], output: &mut [u8]) -> Handed
     requires { ⌜ room ≤ length (now output) ⌝ }
     ensures { λ r. ⌜ HandCall cell (now (octets .entry)) (now (output .entry)) r (now (output .exit)) ⌝ }
 {
     let mut text = [0u8; 46];
-    let opened = receiver::open(cell, octets, &mut text);
+    let opened = receiver::open(cell.receiver, octets, &mut text);
     let refusal = opened.refusal;
     let size = opened.size;
     let end = columns::add_cell(
@@ -94,7 +98,8 @@ fn hand(cell: Receiver, octets: &[u8], output: &mut [u8]) -> Handed
         output,
     );
     let after = opened.receiver;
-    Handed { cell: after, end }
+    cell.receiver = after;
+    Handed { cell, end }
 }
 
 // ---- what is done for a line
@@ -105,12 +110,17 @@ pub(crate) fn pass(mut stage: Stage, text: &[u8], output: &mut [u8]) -> Stepped
     ensures { λ r. ⌜ StepCall (passing stage (now (text .entry))) (now (output .entry)) r (now (output .exit)) ⌝ }
 {
     let mut frame = [0u8; 46];
-    let sealed = sender::seal(stage.phone, text, &mut frame);
-    columns::add_sealed(sealed.refusal, sealed.number, output);
-    columns::add_column(b"passed", output, columns::WIDTH);
+    let sealed = hosts::seal(stage.phone, text, &mut frame);
+    columns::add_sealing(
+        sealed.refusal,
+        sealed.number,
+        sealed.phone.sender.reserved,
+        output,
+    );
+    columns::add_column(b"passed", output, columns::BOX);
     let size = sealed.size;
     let handed = hand(stage.cell, &frame[..size], output);
-    let phone = sealed.sender;
+    let phone = sealed.phone;
     stage.phone = phone;
     let cell = handed.cell;
     stage.cell = cell;
@@ -127,11 +137,16 @@ pub(crate) fn lose(mut stage: Stage, count: u32, output: &mut [u8]) -> Stepped
 {
     let before = lose_times(stage.phone, count - 1);
     let mut frame = [0u8; 46];
-    let sealed = sender::seal(before, b"lost", &mut frame);
-    columns::add_sealed(sealed.refusal, sealed.number, output);
-    columns::add_counted(b"lost ", count, output, columns::WIDTH);
-    let written = columns::add_silence(stage.cell.numbering.next, output);
-    let phone = sealed.sender;
+    let sealed = hosts::seal(before, b"lost", &mut frame);
+    columns::add_sealing(
+        sealed.refusal,
+        sealed.number,
+        sealed.phone.sender.reserved,
+        output,
+    );
+    columns::add_counted(b"lost ", count, output, columns::BOX);
+    let written = columns::add_silence(stage.cell.receiver.numbering.next, output);
+    let phone = sealed.phone;
     stage.phone = phone;
     Stepped { stage, written }
 }
@@ -142,15 +157,20 @@ pub(crate) fn keep(mut stage: Stage, k: usize, text: &[u8], output: &mut [u8]) -
     ensures { λ r. ⌜ StepCall (keeping stage k (now (text .entry))) (now (output .entry)) r (now (output .exit)) ⌝ }
 {
     let mut frame = [0u8; 46];
-    let sealed = sender::seal(stage.phone, text, &mut frame);
-    columns::add_sealed(sealed.refusal, sealed.number, output);
-    columns::add_counted(b"kept ", k as u32, output, columns::WIDTH);
+    let sealed = hosts::seal(stage.phone, text, &mut frame);
+    columns::add_sealing(
+        sealed.refusal,
+        sealed.number,
+        sealed.phone.sender.reserved,
+        output,
+    );
+    columns::add_counted(b"kept ", k as u32, output, columns::BOX);
     let size = sealed.size;
     let shelf = shelve(stage.shelf, k, &frame[..size]);
     stage.shelf = shelf;
-    let phone = sealed.sender;
+    let phone = sealed.phone;
     stage.phone = phone;
-    let written = columns::add_silence(stage.cell.numbering.next, output);
+    let written = columns::add_silence(stage.cell.receiver.numbering.next, output);
     Stepped { stage, written }
 }
 
@@ -163,8 +183,8 @@ pub(crate) fn give(mut stage: Stage, k: usize, output: &mut [u8]) -> Stepped
     let frames = shelf.frames;
     let sizes = shelf.sizes;
     let size = sizes[k];
-    columns::add_column(b"-", output, 0);
-    columns::add_counted(b"gave ", k as u32, output, columns::WIDTH);
+    columns::add_sign(b"-", stage.phone.sender.reserved, output);
+    columns::add_counted(b"gave ", k as u32, output, columns::BOX);
     let handed = hand(stage.cell, frame_at(&frames, k, size), output);
     let cell = handed.cell;
     stage.cell = cell;
@@ -179,9 +199,9 @@ pub(crate) fn nothing(stage: Stage, why: Why, output: &mut [u8]) -> Stepped
     requires { ⌜ room ≤ length (now output) ⌝ }
     ensures { λ r. ⌜ StepCall (Acts·nothing stage why) (now (output .entry)) r (now (output .exit)) ⌝ }
 {
-    columns::add_column(b"?", output, 0);
+    columns::add_sign(b"?", stage.phone.sender.reserved, output);
     columns::add_why(why, output);
-    let written = columns::add_silence(stage.cell.numbering.next, output);
+    let written = columns::add_silence(stage.cell.receiver.numbering.next, output);
     Stepped { stage, written }
 }
 
@@ -196,7 +216,8 @@ pub(crate) fn noise(mut stage: Stage, text: &[u8], output: &mut [u8]) -> Stepped
         return nothing(stage, Why::Hex, output);
     }
     let count = put.count;
-    columns::add(b"-          handed     ", output, 0);
+    columns::add_sign(b"-", stage.phone.sender.reserved, output);
+    columns::add_column(b"handed", output, columns::BOX);
     let handed = hand(stage.cell, &octets[..count], output);
     let cell = handed.cell;
     stage.cell = cell;
@@ -242,6 +263,13 @@ pub(crate) fn obey(stage: Stage, line: &[u8], output: &mut [u8]) -> Stepped
         Asked::Keep(k) => keep(stage, k, rest(line, 7), output),
         Asked::Give(k) => give(stage, k, output),
         Asked::Noise => noise(stage, rest(line, 6), output),
+        Asked::StorePhone(count) => plugs::store_phone(stage, count, output),
+        Asked::TellPhone => plugs::tell_phone(stage, output),
+        Asked::CutPhone => plugs::cut_phone(stage, output),
+        Asked::RestartPhone => plugs::restart_phone(stage, output),
+        Asked::StoreCell => plugs::store_cell(stage, output),
+        Asked::CutCell => plugs::cut_cell(stage, output),
+        Asked::RestartCell => plugs::restart_cell(stage, output),
         Asked::Bad(why) => nothing(stage, why, output),
     }
 }

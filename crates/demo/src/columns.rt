@@ -5,11 +5,14 @@ ghost use Prim.Native.Nat.{_+_, _≤_, _<_};
 ghost use lib.ListN.{length, take, drop, replicate};
 ghost use Rattle.lines.specs.Text.{Added, decimalText};
 ghost use Rattle.demo.specs.Words.{joined, refusalWords, refusalText};
-ghost use Rattle.demo.specs.Columns.{column, phoneText, numberText, answerText, shown as Columns·shown, shownText, textColumn, cellColumns, silentColumns, whyRow, whyText};
+ghost use Rattle.demo.specs.Columns.{column, phoneText, phoneColumns, numberText, answerText, shown as Columns·shown, shownText, textColumn, cellColumns, silentColumns, whyRow, whyText};
 use script::Why;
 
-// How wide a column is; the box's column begins there.
-pub(crate) const WIDTH: usize = 11;
+// How wide a column is; that of the phone's reservation begins there.
+const WIDTH: usize = 11;
+
+// Where the box's column begins.
+pub(crate) const BOX: usize = 22;
 
 // How wide a row of a table of words is.
 const ROW: usize = 10;
@@ -56,14 +59,14 @@ fn add_number(number: u32, output: &mut [u8], place: usize)
     add_digits(number, output, place);
 }
 
-// Puts a word of five octets and a number of at most three digits as one column.
+// Puts a word of at most eight octets and a number of at most three digits as one column.
 pub(crate) fn add_counted(text: &[u8], number: u32, output: &mut [u8], place: usize)
-    requires { ⌜ (length (now text) ≡ 5) × ((number < 1000) × (place + 11 ≤ length (now output))) ⌝ }
+    requires { ⌜ (length (now text) ≤ 8) × ((number < 1000) × (place + 11 ≤ length (now output))) ⌝ }
     ensures { λ _. ⌜ Added (column (now (text .entry) ++ decimalText number)) (now (output .entry)) place (place + 11) (now (output .exit)) ⌝ }
 {
     blank(output, place);
     add(text, output, place);
-    add_digits(number, output, place + 5);
+    add_digits(number, output, place + text.len());
 }
 
 // Puts a row of a table of words as a column.
@@ -94,15 +97,15 @@ fn add_refusal(refusal: u8, output: &mut [u8], place: usize)
     ensures { λ _. ⌜ Added (column (refusalText refusal)) (now (output .entry)) place (place + 11) (now (output .exit)) ⌝ }
 {
     add_row_of(
-        b"1 key     2 range   3 size    4 room    5 length  6 version 7 spare   8 other   9 start   10 end    11 repeat 12 state  ",
+        b"1 key     2 range   3 size    4 room    5 length  6 version 7 spare   8 other   9 start   10 end    11 repeat 12 state  13 reserve",
         refusal,
         output,
         place,
     );
 }
 
-// Puts the phone's column: the number that it sealed under, or why it sealed nothing.
-pub(crate) fn add_sealed(refusal: u8, number: u32, output: &mut [u8])
+// Puts the column of what the phone sealed: the number of the frame, or why there is none.
+fn add_sealed(refusal: u8, number: u32, output: &mut [u8])
     requires { ⌜ 11 ≤ length (now output) ⌝ }
     ensures { λ _. ⌜ Added (column (phoneText refusal number)) (now (output .entry)) 0 11 (now (output .exit)) ⌝ }
 {
@@ -111,6 +114,33 @@ pub(crate) fn add_sealed(refusal: u8, number: u32, output: &mut [u8])
         return;
     }
     add_refusal(refusal, output, 0);
+}
+
+// Puts the phone's columns where it was to seal: the frame's number, or why there is none; and its reservation.
+pub(crate) fn add_sealing(refusal: u8, number: u32, reserved: u32, output: &mut [u8])
+    requires { ⌜ 22 ≤ length (now output) ⌝ }
+    ensures { λ _. ⌜ Added (phoneColumns (phoneText refusal number) reserved) (now (output .entry)) 0 22 (now (output .exit)) ⌝ }
+{
+    add_sealed(refusal, number, output);
+    add_number(reserved, output, WIDTH);
+}
+
+// Puts the phone's columns where it was stored, told or restarted: its answer, and its reservation.
+pub(crate) fn add_done(refusal: u8, reserved: u32, output: &mut [u8])
+    requires { ⌜ 22 ≤ length (now output) ⌝ }
+    ensures { λ _. ⌜ Added (phoneColumns (answerText refusal) reserved) (now (output .entry)) 0 22 (now (output .exit)) ⌝ }
+{
+    add_answer(refusal, output, 0);
+    add_number(reserved, output, WIDTH);
+}
+
+// Puts the phone's columns where it was asked for nothing: a sign, and its reservation.
+pub(crate) fn add_sign(sign: &[u8], reserved: u32, output: &mut [u8])
+    requires { ⌜ (length (now sign) ≤ 11) × (22 ≤ length (now output)) ⌝ }
+    ensures { λ _. ⌜ Added (phoneColumns (now (sign .entry)) reserved) (now (output .entry)) 0 22 (now (output .exit)) ⌝ }
+{
+    add_column(sign, output, 0);
+    add_number(reserved, output, WIDTH);
 }
 
 // The row of a reason for a bad line.
@@ -130,14 +160,14 @@ fn row_of(why: Why) -> usize
 
 // Puts the box's column for a bad line.
 pub(crate) fn add_why(why: Why, output: &mut [u8])
-    requires { ⌜ 22 ≤ length (now output) ⌝ }
-    ensures { λ _. ⌜ Added (column (whyText why)) (now (output .entry)) 11 22 (now (output .exit)) ⌝ }
+    requires { ⌜ 33 ≤ length (now output) ⌝ }
+    ensures { λ _. ⌜ Added (column (whyText why)) (now (output .entry)) 22 33 (now (output .exit)) ⌝ }
 {
     add_row(
         b"long      empty     octet     command   count     place     hex       ",
         ROW * row_of(why),
         output,
-        WIDTH,
+        BOX,
     );
 }
 
@@ -214,22 +244,22 @@ pub(crate) fn add_cell(
     text: &[u8],
     output: &mut [u8],
 ) -> usize
-    requires { ⌜ (length (now text) ≤ 46) × (102 ≤ length (now output)) ⌝ }
-    ensures { λ r. ⌜ Added (cellColumns given refusal number next (now (text .entry))) (now (output .entry)) 22 r (now (output .exit)) ⌝ }
+    requires { ⌜ (length (now text) ≤ 46) × (113 ≤ length (now output)) ⌝ }
+    ensures { λ r. ⌜ Added (cellColumns given refusal number next (now (text .entry))) (now (output .entry)) 33 r (now (output .exit)) ⌝ }
 {
-    add_given(given, number, output, 22);
-    add_answer(refusal, output, 33);
-    add_number(next, output, 44);
-    add_text(text, output, 55)
+    add_given(given, number, output, 33);
+    add_answer(refusal, output, 44);
+    add_number(next, output, 55);
+    add_text(text, output, 66)
 }
 
 // Puts the columns of the cell where it is handed nothing, and answers where the line ends.
 pub(crate) fn add_silence(next: u32, output: &mut [u8]) -> usize
-    requires { ⌜ 102 ≤ length (now output) ⌝ }
-    ensures { λ r. ⌜ Added (silentColumns next) (now (output .entry)) 22 r (now (output .exit)) ⌝ }
+    requires { ⌜ 113 ≤ length (now output) ⌝ }
+    ensures { λ r. ⌜ Added (silentColumns next) (now (output .entry)) 33 r (now (output .exit)) ⌝ }
 {
-    add(b"-          -          ", output, 22);
-    add_number(next, output, 44);
-    add(b"-\n", output, 55);
-    57
+    add(b"-          -          ", output, 33);
+    add_number(next, output, 55);
+    add(b"-\n", output, 66);
+    68
 }

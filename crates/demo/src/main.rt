@@ -1,7 +1,9 @@
 // Reads a script of one command a line, plays it, and writes what the phone, the box and the cell did, a line each.
 mod acts;
 mod columns;
+mod hosts;
 mod play;
+mod plugs;
 
 ghost use mathlib.Core.Bool.{true};
 ghost use mathlib.Core.Path.{_≡_};
@@ -71,7 +73,7 @@ fn move_all(output: &mut [u8]) -> Play
 }
 
 fn main() {
-    let mut output = [0u8; 102];
+    let mut output = [0u8; 113];
     let size = play::put_heading(&mut output);
     if !io::write_all(STDOUT_FILENO, &output[..size]) {
         return;

@@ -1,18 +1,20 @@
 // The play: a phone end that seals numbered lines, a box that loses, repeats and reorders them, and a cell end that opens them, heard octet by octet.
-// How lines are heard is the crate `lines`, and what the two ends do the crates `sender` and `receiver`.
+// How lines are heard is the crate `lines`, and what the two ends do the crates `sender`, `receiver` and `stored`.
 ghost use mathlib.Core.Path.{_≡_};
 ghost use Prim.Native.Nat.{_≤_};
 ghost use lib.ListN.{length};
 ghost use Rattle.lines.specs.Text.{AtFront};
 ghost use Rattle.lines.specs.Hearing.{heardLine, HearCall, FinishCall};
-ghost use Rattle.demo.specs.Acts.{obeyed, StepCall};
+ghost use Rattle.demo.specs.Step.{StepCall};
+ghost use Rattle.demo.specs.Acts.{obeyed};
 ghost use Rattle.demo.specs.Play.{room, heading as Play·heading, demoRules, standing, newPlay};
 use crate::acts;
 use crate::acts::Stepped;
+use crate::hosts;
+use crate::hosts::Cell;
+use crate::hosts::Phone;
 use lines::Heard;
-use receiver::Receiver;
 use script::Why;
-use sender::Sender;
 
 // What ends a line.
 const LINE_FEED: u8 = b'\n';
@@ -30,10 +32,10 @@ pub(crate) struct Shelf {
     pub sizes: [u8; 10],
 }
 
-// The phone's end, the cell's end, and the shelf of the box between them.
+// The phone, the cell, and the shelf of the box between them.
 pub(crate) struct Stage {
-    pub phone: Sender,
-    pub cell: Receiver,
+    pub phone: Phone,
+    pub cell: Cell,
     pub shelf: Shelf,
 }
 
@@ -44,13 +46,25 @@ pub(crate) struct Play {
     pub written: usize,
 }
 
-// The start: nothing heard, nothing on the shelf, and both ends newly opened on one link, whose key is an example that everybody may know.
+// The start: nothing heard, nothing on the shelf, and both ends newly opened on one link, whose key is an example that everybody may know. They are
+// stored so, and a restart of one is then a new opening.
 pub(crate) fn new_play() -> Play
     ensures { λ r. ⌜ r ≡ newPlay ⌝ }
 {
     let key = [0u8, 1, 2, 3, 4, 5, 6, 7, 8, 9, 10, 11, 12, 13, 14, 15];
-    let phone = sender::open_sender(&key, IOV, SAPI, DIRECTION).sender;
-    let cell = receiver::open_receiver(&key, IOV, SAPI, DIRECTION).receiver;
+    let sender = sender::open_sender(&key, IOV, SAPI, DIRECTION).sender;
+    let opened_phone = Phone {
+        sender,
+        form: [0u8; 29],
+        automatic: true,
+    };
+    let phone = hosts::store(opened_phone, 0).phone;
+    let receiver = receiver::open_receiver(&key, IOV, SAPI, DIRECTION).receiver;
+    let opened_cell = Cell {
+        receiver,
+        form: [0u8; 33],
+    };
+    let cell = hosts::store_cell(opened_cell).cell;
     let shelf = Shelf {
         frames: [0u8; 460],
         sizes: [0u8; 10],
@@ -70,7 +84,7 @@ pub(crate) fn put_heading(output: &mut [u8]) -> usize
     ensures { λ r. ⌜ AtFront Play·heading (now (output .entry)) r (now (output .exit)) ⌝ }
 {
     lines::put_text(
-        b"phone      box        number     answer     next       text\n",
+        b"phone      reserved   box        number     answer     next       text\n",
         output,
     ).count
 }

@@ -16,10 +16,10 @@ use Rattle.lines.specs.Digits.{within, valueOf, isNumber, digitsCall, decimalCa
 use Rattle.lines.proofs.Callers.{number-none, number-read, number-refused}
 use Rattle.lines.proofs.Digits.{within-both, within-below, within-above, within-to, from-place, number-below, number-size, number-digits}
 use Rattle.script.specs.declared.kinds.Asked.{Asked}
-use Rattle.script.specs.declared.kinds.Asked.the-variants.{Remark, Pass, Lose, Keep, Give, Noise, Bad}
+use Rattle.script.specs.declared.kinds.Asked.the-variants.{Remark, Pass, Lose, Keep, Give, Noise, StorePhone, TellPhone, CutPhone, RestartPhone, StoreCell, CutCell, RestartCell, Bad}
 use Rattle.script.specs.declared.kinds.Why.the-variants.{Long, Empty, Octet, Command, Count, Place}
 use Rattle.script.specs.Quoted.{quoted}
-use Rattle.script.specs.Script.{allPrintable, begins, countOf, placeOf, askedLose, askedKeep, askedGive, askedCommand, asked}
+use Rattle.script.specs.Script.{allPrintable, begins, is, countOf, placeOf, askedLose, askedKeep, askedGive, askedStore, askedCell, askedPhone, askedCommand, asked}
 
 -- ---- the words of a line
 
@@ -169,6 +169,70 @@ module _ (rest : List ℕ) where
   unfolding askedGive
   give-other other = rw (ne-eqb (length rest) 1 other)
 
+  -- a count for `store phone` is read, or is none
+  pub store-long : 3 < length rest → Bad Count ≡ askedStore rest
+  unfolding askedStore isNumber
+  store-long long = rw (within-above 1 3 (length rest) (omega arith) long)
+
+  module _ (short : length rest ≤ 3) {refusal value : ℕ} (answered : Answered (decimalCall rest) refusal (value ∷ []) tt) where
+    pub store-none : (refusal ≡ 0 → ⊥) → Bad Count ≡ askedStore rest
+    unfolding askedStore
+    store-none refused = rw (sym (same-number rest short) ∙ number-none 10 10 rest answered refused)
+
+    pub store-below : refusal ≡ 0 → value < 1000
+    store-below done =
+        let read = number-read 10 10 rest answered done in
+        omega (arith, read .1, below-1000 rest (sym (same-number rest short) ∙ read .0))
+
+    pub store-some : refusal ≡ 0 → StorePhone value ≡ askedStore rest
+    unfolding askedStore
+    store-some done =
+        let read = number-read 10 10 rest answered done in
+        ap StorePhone (read .1) ∙ rw (sym (same-number rest short) ∙ read .0)
+
+-- a line for the cell, and one for the phone
+module _ (line : List ℕ) where
+  pub is-store-cell : is (quoted "store cell") line ≡ true → StoreCell ≡ askedCell line
+  unfolding askedCell
+  is-store-cell store = rw store
+
+  module _ (no-store : is (quoted "store cell") line ≡ false) where
+    pub is-cut-cell : is (quoted "cut cell") line ≡ true → CutCell ≡ askedCell line
+    unfolding askedCell
+    is-cut-cell cut = rw (no-store, cut)
+
+    module _ (no-cut : is (quoted "cut cell") line ≡ false) where
+      pub is-restart-cell : is (quoted "restart cell") line ≡ true → RestartCell ≡ askedCell line
+      unfolding askedCell
+      is-restart-cell restart = rw (no-store, no-cut, restart)
+
+      pub is-no-cell : is (quoted "restart cell") line ≡ false → Bad Command ≡ askedCell line
+      unfolding askedCell
+      is-no-cell no-restart = rw (no-store, no-cut, no-restart)
+
+  pub is-store-phone : begins (quoted "store phone ") line ≡ true → askedStore (drop 12 line) ≡ askedPhone line
+  unfolding askedPhone
+  is-store-phone store = rw store
+
+  module _ (no-store : begins (quoted "store phone ") line ≡ false) where
+    pub is-tell-phone : is (quoted "tell phone") line ≡ true → TellPhone ≡ askedPhone line
+    unfolding askedPhone
+    is-tell-phone tell = rw (no-store, tell)
+
+    module _ (no-tell : is (quoted "tell phone") line ≡ false) where
+      pub is-cut-phone : is (quoted "cut phone") line ≡ true → CutPhone ≡ askedPhone line
+      unfolding askedPhone
+      is-cut-phone cut = rw (no-store, no-tell, cut)
+
+      module _ (no-cut : is (quoted "cut phone") line ≡ false) where
+        pub is-restart-phone : is (quoted "restart phone") line ≡ true → RestartPhone ≡ askedPhone line
+        unfolding askedPhone
+        is-restart-phone restart = rw (no-store, no-tell, no-cut, restart)
+
+        pub is-no-phone : is (quoted "restart phone") line ≡ false → askedCell line ≡ askedPhone line
+        unfolding askedPhone
+        is-no-phone no-restart = rw (no-store, no-tell, no-cut, no-restart)
+
 module _ (line : List ℕ) where
   pub is-pass : begins (quoted "pass ") line ≡ true → Pass ≡ askedCommand line
   unfolding askedCommand
@@ -194,9 +258,9 @@ module _ (line : List ℕ) where
           unfolding askedCommand
           is-noise noise = rw (no-pass, no-lose, no-keep, no-give, noise)
 
-          pub is-none : begins (quoted "noise ") line ≡ false → Bad Command ≡ askedCommand line
+          pub is-other : begins (quoted "noise ") line ≡ false → askedPhone line ≡ askedCommand line
           unfolding askedCommand
-          is-none no-noise = rw (no-pass, no-lose, no-keep, no-give, no-noise)
+          is-other no-noise = rw (no-pass, no-lose, no-keep, no-give, no-noise)
 
   pub is-long : 48 < length line → Bad Long ≡ asked line
   unfolding asked
@@ -223,7 +287,7 @@ module _ (line : List ℕ) where
 
 -- ---- what is asked is possible
 
--- a count is from 1 to 999 and a place from 0 to 9; a remark and the digits of `noise` stand in a line of at most 48 octets
+-- a count is from 1 to 999, but that of `store phone` from 0 on, and a place from 0 to 9; a remark and the digits of `noise` stand in a line of at most 48 octets
 abbrev pub Possible : List ℕ → Asked → Type 0
 Possible line Remark = length line ≤ 48
 Possible line Pass = Unit {0}
@@ -231,6 +295,13 @@ Possible line (Lose count) = (0 < count) × (count < 1000)
 Possible line (Keep k) = k < 10
 Possible line (Give k) = k < 10
 Possible line Noise = length line ≤ 48
+Possible line (StorePhone count) = count < 1000
+Possible line TellPhone = Unit {0}
+Possible line CutPhone = Unit {0}
+Possible line RestartPhone = Unit {0}
+Possible line StoreCell = Unit {0}
+Possible line CutCell = Unit {0}
+Possible line RestartCell = Unit {0}
 Possible line (Bad why) = Unit {0}
 
 module _ (line : List ℕ) where
@@ -258,6 +329,25 @@ module _ (line : List ℕ) where
         (λ one. either (ltb 9 (placeOf (getD rest 0 0))) _ _ (λ high. tt) (λ low. omega (arith, ltb-false 9 (placeOf (getD rest 0 0)) low)))
         (λ other. tt)
 
+    store-possible : Possible line (askedStore rest)
+    unfolding askedStore
+    store-possible = either (isNumber 10 3 rest) _ _ (λ number. below-1000 rest number) (λ none. tt)
+
+  cell-possible : Possible line (askedCell line)
+  unfolding askedCell
+  cell-possible =
+      either (is (quoted "store cell") line) _ _ (λ store. tt)
+      (λ no-store. either (is (quoted "cut cell") line) _ _ (λ cut. tt)
+      (λ no-cut. either (is (quoted "restart cell") line) _ _ (λ restart. tt) (λ no-restart. tt)))
+
+  phone-possible : Possible line (askedPhone line)
+  unfolding askedPhone
+  phone-possible =
+      either (begins (quoted "store phone ") line) _ _ (λ store. store-possible (drop 12 line))
+      (λ no-store. either (is (quoted "tell phone") line) _ _ (λ tell. tt)
+      (λ no-tell. either (is (quoted "cut phone") line) _ _ (λ cut. tt)
+      (λ no-cut. either (is (quoted "restart phone") line) _ _ (λ restart. tt) (λ no-restart. cell-possible))))
+
   command-possible : length line ≤ 48 → Possible line (askedCommand line)
   unfolding askedCommand
   command-possible short =
@@ -265,7 +355,7 @@ module _ (line : List ℕ) where
       (λ no-pass. either (begins (quoted "lose ") line) _ _ (λ lose. lose-possible (drop 5 line))
       (λ no-lose. either (begins (quoted "keep ") line) _ _ (λ keep. keep-possible (drop 5 line))
       (λ no-keep. either (begins (quoted "give ") line) _ _ (λ give. give-possible (drop 5 line))
-      (λ no-give. either (begins (quoted "noise ") line) _ _ (λ noise. short) (λ no-noise. tt)))))
+      (λ no-give. either (begins (quoted "noise ") line) _ _ (λ noise. short) (λ no-noise. phone-possible)))))
 
   pub asked-possible : Possible line (asked line)
   unfolding asked

@@ -6,7 +6,7 @@ use lib.Dec.{eqb, ltb}
 use lib.ListN.{length, getD, drop}
 use Rattle.lines.specs.Digits.{within, valueOf, isNumber}
 use Rattle.script.specs.declared.kinds.Asked.{Asked}
-use Rattle.script.specs.declared.kinds.Asked.the-variants.{Remark, Pass, Lose, Keep, Give, Noise, Bad}
+use Rattle.script.specs.declared.kinds.Asked.the-variants.{Remark, Pass, Lose, Keep, Give, Noise, StorePhone, TellPhone, CutPhone, RestartPhone, StoreCell, CutCell, RestartCell, Bad}
 use Rattle.script.specs.declared.kinds.Why.the-variants.{Long, Empty, Octet, Command, Count, Place}
 use Rattle.script.specs.Quoted.{quoted}
 
@@ -20,6 +20,10 @@ unfoldable pub begins : List ℕ → List ℕ → Bool
 begins [] line = true
 begins (octet ∷ rest) [] = false
 begins (octet ∷ rest) (other ∷ line) = eqb octet other && begins rest line
+
+-- the line is the words, and no more
+unfoldable pub is : List ℕ → List ℕ → Bool
+is words line = eqb (length line) (length words) && begins words line
 
 -- what stands from a place of the line on; past its end there is nothing
 abbrev pub restOf : List ℕ → ℕ → List ℕ
@@ -51,6 +55,27 @@ askedGive rest =
     (cond (ltb 9 (placeOf (getD rest 0 0))) (Bad Place) (Give (placeOf (getD rest 0 0))))
     (Bad Place)
 
+-- `store phone COUNT`, by what stands after `store phone `: a count of one to three digits, which may be 0
+unfoldable pub askedStore : List ℕ → Asked
+askedStore rest = cond (isNumber 10 3 rest) (StorePhone (valueOf 10 rest)) (Bad Count)
+
+-- a line for the cell's stored form, or for its plug
+unfoldable pub askedCell : List ℕ → Asked
+askedCell line =
+    cond (is (quoted "store cell") line) StoreCell
+    (cond (is (quoted "cut cell") line) CutCell
+    (cond (is (quoted "restart cell") line) RestartCell
+    (Bad Command)))
+
+-- a line for the phone's stored form, or for its plug; or else one for the cell's
+unfoldable pub askedPhone : List ℕ → Asked
+askedPhone line =
+    cond (begins (quoted "store phone ") line) (askedStore (drop 12 line))
+    (cond (is (quoted "tell phone") line) TellPhone
+    (cond (is (quoted "cut phone") line) CutPhone
+    (cond (is (quoted "restart phone") line) RestartPhone
+    (askedCell line))))
+
 -- a command, by its first word
 unfoldable pub askedCommand : List ℕ → Asked
 askedCommand line =
@@ -59,7 +84,7 @@ askedCommand line =
     (cond (begins (quoted "keep ") line) (askedKeep (drop 5 line))
     (cond (begins (quoted "give ") line) (askedGive (drop 5 line))
     (cond (begins (quoted "noise ") line) Noise
-    (Bad Command)))))
+    (askedPhone line)))))
 
 -- any line: one that is too long, empty, or not printable is bad; one that begins with `#` is a remark
 unfoldable pub asked : List ℕ → Asked

@@ -19,5 +19,12 @@ pub enum Asked {
     Keep(usize),
     Give(usize),
     Noise,
+    StorePhone(u32),
+    TellPhone,
+    CutPhone,
+    RestartPhone,
+    StoreCell,
+    CutCell,
+    RestartCell,
     Bad(Why),
 }

@@ -2,7 +2,7 @@
 pub mod kinds;
 
 ghost use mathlib.Core.Path.{_≡_};
-ghost use Rattle.script.specs.Script.{allPrintable, begins as Script·begins, restOf, countOf, placeOf, askedLose, askedKeep, askedGive, askedCommand, asked as Script·asked};
+ghost use Rattle.script.specs.Script.{allPrintable, begins as Script·begins, is as Script·is, restOf, countOf, placeOf, askedLose, askedKeep, askedGive, askedStore, askedCell, askedPhone, askedCommand, asked as Script·asked};
 pub use kinds::Asked;
 pub use kinds::Why;
 
@@ -41,6 +41,13 @@ fn begins(word: &[u8], line: &[u8]) -> bool
         i += 1;
     }
     true
+}
+
+// Whether the line is the words, and no more.
+fn is(words: &[u8], line: &[u8]) -> bool
+    ensures { λ r. ⌜ r ≡ Script·is (now (words .entry)) (now (line .entry)) ⌝ }
+{
+    (line.len() == words.len()) & begins(words, line)
 }
 
 // What stands from a place of the line on.
@@ -116,6 +123,55 @@ fn asked_give(rest: &[u8]) -> Asked
     Asked::Bad(Why::Place)
 }
 
+// `store phone COUNT`, by what stands after `store phone `. Here a count may be 0.
+fn asked_store(rest: &[u8]) -> Asked
+    ensures { λ r. ⌜ r ≡ askedStore (now (rest .entry)) ⌝ }
+{
+    if 3 < rest.len() {
+        return Asked::Bad(Why::Count);
+    }
+    let number = lines::decimal(rest);
+    if number.refusal != 0 {
+        return Asked::Bad(Why::Count);
+    }
+    Asked::StorePhone(number.value as u32)
+}
+
+// A line for the cell's stored form, or for its plug.
+fn asked_cell(line: &[u8]) -> Asked
+    ensures { λ r. ⌜ r ≡ askedCell (now (line .entry)) ⌝ }
+{
+    if is(b"store cell", line) {
+        return Asked::StoreCell;
+    }
+    if is(b"cut cell", line) {
+        return Asked::CutCell;
+    }
+    if is(b"restart cell", line) {
+        return Asked::RestartCell;
+    }
+    Asked::Bad(Why::Command)
+}
+
+// A line for the phone's stored form, or for its plug; or else one for the cell's.
+fn asked_phone(line: &[u8]) -> Asked
+    ensures { λ r. ⌜ r ≡ askedPhone (now (line .entry)) ⌝ }
+{
+    if begins(b"store phone ", line) {
+        return asked_store(rest(line, 12));
+    }
+    if is(b"tell phone", line) {
+        return Asked::TellPhone;
+    }
+    if is(b"cut phone", line) {
+        return Asked::CutPhone;
+    }
+    if is(b"restart phone", line) {
+        return Asked::RestartPhone;
+    }
+    asked_cell(line)
+}
+
 // A command, by its first word.
 fn asked_command(line: &[u8]) -> Asked
     ensures { λ r. ⌜ r ≡ askedCommand (now (line .entry)) ⌝ }
@@ -136,7 +192,7 @@ fn asked_command(line: &[u8]) -> Asked
     if begins(b"noise ", line) {
         return Asked::Noise;
     }
-    Asked::Bad(Why::Command)
+    asked_phone(line)
 }
 
 // What a line asks for.

@@ -7,7 +7,7 @@ use mathlib.Core.List.{List}
 use mathlib.Core.Path.{_≡_, refl, sym, ap, _∙_}
 use Rattle.script.specs.Quoted.{quoted}
 use Rattle.script.specs.Script.{begins, askedLose, askedKeep, askedGive}
-use Rattle.script.proofs.Lines.{is-pass, is-lose, is-keep, is-give, is-noise, is-none}
+use Rattle.script.proofs.Lines.{is-pass, is-lose, is-keep, is-give, is-noise, is-other}
 use Rattle.script.proofs.asked_command.Statement.{statement}
 use Rattle.script.proofs.asked_command.Tie as tie
 
@@ -98,8 +98,13 @@ returns-5 c =
     let at : tie.Else4 = c .before .before .before in
     is-noise (line (c .before .before .before .before .before .before .before .before .before .before .before .before .before .before .before .before .before)) (no-pass (at .before .before .before .before .before .before .before .before .before)) (no-lose (at .before .before .before .before .before .before)) (no-keep (at .before .before .before)) (no-give at) (sym (c .before .begins5 .ensures) ∙ c .if5 .taken)
 
+asked-phone-requires : tie.Need-asked-phone-requires
+asked-phone-requires c κs = tt
+
 returns-6 : tie.Need-returns-6
-returns-6 c = is-none (line (c .before .before .before .before .before .before .before .before .before .before .before .before .before .before .before .before .before)) (no-pass (c .before .before .before .before .before .before .before .before .before .before .before .before)) (no-lose (c .before .before .before .before .before .before .before .before .before)) (no-keep (c .before .before .before .before .before .before)) (no-give (c .before .before .before)) (no-noise c)
+returns-6 c =
+    let last : tie.Else5 = c .before in
+    c .asked-phone .ensures ∙ is-other (line (last .before .before .before .before .before .before .before .before .before .before .before .before .before .before .before .before .before)) (no-pass (last .before .before .before .before .before .before .before .before .before .before .before .before)) (no-lose (last .before .before .before .before .before .before .before .before .before)) (no-keep (last .before .before .before .before .before .before)) (no-give (last .before .before .before)) (no-noise last)
 
 pub asked-command-spec : {M : Type 1} → statement M
 asked-command-spec =
@@ -124,4 +129,5 @@ asked-command-spec =
     slice-aggregate-begins-5
     begins-requires-5
     returns-5
+    asked-phone-requires
     returns-6)

@@ -16,11 +16,11 @@ places c = search needs
 array-read-size : tie.Need-array-read-size
 array-read-size c = search needs
 
-slice-aggregate-add-column : tie.Need-slice-aggregate-add-column
-slice-aggregate-add-column c = refl
+slice-aggregate-add-sign : tie.Need-slice-aggregate-add-sign
+slice-aggregate-add-sign c = refl
 
-add-column-requires : tie.Need-add-column-requires
-add-column-requires c κs = search needs
+add-sign-requires : tie.Need-add-sign-requires
+add-sign-requires c κs = search needs
 
 slice-aggregate-add-counted : tie.Need-slice-aggregate-add-counted
 slice-aggregate-add-counted c = refl
@@ -52,15 +52,15 @@ returns c =
     let at-hyphen = at-counted .before .before .before .before .before in
     let at-start = at-hyphen .before .before .before .before .before .before .before in
     gave (at-start .args .stage) (at-start .args .k) (at-frame .frame-at .ensures) (at-hand .hand .ensures .cell-is)
-    (line-put (omega (arith, at-start .pre .1)) (at-hyphen .add-column .ensures) (at-counted .add-counted .ensures) (at-hand .hand .ensures .columns-are))
+    (line-put (omega (arith, at-start .pre .1)) (at-hyphen .add-sign .ensures) (at-counted .add-counted .ensures) (at-hand .hand .ensures .columns-are))
 
 pub give-spec : {M : Type 1} → statement M
 give-spec =
     tie.close
     (tie.spec
     array-read-size
-    slice-aggregate-add-column
-    add-column-requires
+    slice-aggregate-add-sign
+    add-sign-requires
     slice-aggregate-add-counted
     cast-add-counted
     add-counted-requires

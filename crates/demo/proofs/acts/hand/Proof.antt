@@ -19,7 +19,7 @@ use Rattle.demo.proofs.acts.hand.Tie as tie
 -- the text is within the room that was lent
 fits : (c : tie.After-open) → c .«open» .result .size ≤ 46
 unfolding frameRoom
-fits c = opened-fits (c .before .before .before .before .args .cell) (now (c .before .before .before .before .args .octets)) (c .«open» .ensures)
+fits c = opened-fits (c .before .before .before .before .args .cell .receiver) (now (c .before .before .before .before .args .octets)) (c .«open» .ensures)
 
 within : (c : tie.After-open) → c .«open» .result .size ≤ length (c .«open» .last .1 .1 .0)
 within c = omega (arith, fits c, c .«open» .kept .1 .1 .0)
@@ -49,9 +49,10 @@ same-length c = search needs
 returns : tie.Need-returns
 unfolding frameRoom
 returns c =
-    let at-open = c .before .before .before .before .before .before .before in
+    let at-cell = c .before .before .before in
+    let at-open = at-cell .before .before .before .before in
     let given = at-open .before .before .before .before .args in
-    handed (given .cell) (now (given .octets)) (is-outcome (openCall width (given .cell) (now (given .octets)) frameRoom) (at-open .«open» .ensures)) (c .before .before .before .add-cell .ensures)
+    handed (given .cell) (now (given .octets)) (is-outcome (openCall width (given .cell .receiver) (now (given .octets)) frameRoom) (at-open .«open» .ensures)) (at-cell .add-cell .ensures)
 
 pub hand-spec : {M : Type 1} → statement M
 hand-spec =

@@ -8,8 +8,8 @@ use native.Mathlib.Omega.{arith}
 use Prim.Native.Nat.{_≤_}
 use Rattle.refusals.proofs.Calls.{is-outcome}
 use Rattle.sender.specs.Sender.{sealCall}
-use Rattle.demo.specs.Ends.{frameRoom}
-use Rattle.demo.proofs.Ends.{sealed-fits}
+use Rattle.demo.specs.Ends.{frameRoom, keptAhead}
+use Rattle.demo.proofs.Ends.{sealed-fits, sealed-phone}
 use Rattle.demo.proofs.Steps.{line-put, kept}
 use borrow.Author.Needs.{needs}
 use Rattle.demo.proofs.acts.keep.Statement.{statement}
@@ -18,7 +18,7 @@ use Rattle.demo.proofs.acts.keep.Tie as tie
 -- the frame is within the room that was lent
 fits : (c : tie.After-seal) → c .seal .result .size ≤ 46
 unfolding frameRoom
-fits c = sealed-fits (c .before .before .before .before .args .stage .phone) (now (c .before .before .before .before .args .text)) (c .seal .ensures)
+fits c = sealed-fits (keptAhead (c .before .before .before .before .args .stage .phone) .sender) (now (c .before .before .before .before .args .text)) (c .seal .ensures .answered)
 
 within : (c : tie.After-seal) → c .seal .result .size ≤ length (c .seal .last .1 .1 .0)
 within c = omega (arith, fits c, c .seal .kept .1 .1 .0)
@@ -32,8 +32,8 @@ slice-aggregate-seal c = refl
 seal-requires : tie.Need-seal-requires
 seal-requires c κs = tt
 
-add-sealed-requires : tie.Need-add-sealed-requires
-add-sealed-requires c κs = search needs
+add-sealing-requires : tie.Need-add-sealing-requires
+add-sealing-requires c κs = search needs
 
 slice-aggregate-add-counted : tie.Need-slice-aggregate-add-counted
 slice-aggregate-add-counted c = refl
@@ -64,14 +64,16 @@ same-length c = search needs
 returns : tie.Need-returns
 unfolding frameRoom
 returns c =
-    let at-shelf = c .before .before .before .before .before in
+    let at-silence = c .before .before in
+    let at-shelf = at-silence .before .before .before in
     let at-counted = at-shelf .before .before .before .before in
-    let at-sealed = at-counted .before .before .before .before .before in
-    let at-seal = at-sealed .before .before .before in
+    let at-phone = at-counted .before .before .before .before .before in
+    let at-seal = at-phone .before .before .before in
     let at-start = at-seal .before .before .before .before in
     let given = at-start .args in
-    kept (given .stage) (given .k) (now (given .text)) (is-outcome (sealCall (given .stage .phone) (now (given .text)) frameRoom) (at-seal .seal .ensures)) (at-shelf .shelve .ensures)
-    (line-put (omega (arith, at-start .pre .1)) (at-sealed .add-sealed .ensures) (at-counted .add-counted .ensures) (c .before .before .add-silence .ensures))
+    let is = is-outcome (sealCall (keptAhead (given .stage .phone) .sender) (now (given .text)) frameRoom) (at-seal .seal .ensures .answered) in
+    kept (given .stage) (given .k) (now (given .text)) is (sealed-phone (given .stage .phone) (at-seal .seal .ensures) is) (at-shelf .shelve .ensures)
+    (line-put (omega (arith, at-start .pre .1)) (at-phone .add-sealing .ensures) (at-counted .add-counted .ensures) (at-silence .add-silence .ensures))
 
 pub keep-spec : {M : Type 1} → statement M
 keep-spec =
@@ -79,7 +81,7 @@ keep-spec =
     (tie.spec
     slice-aggregate-seal
     seal-requires
-    add-sealed-requires
+    add-sealing-requires
     slice-aggregate-add-counted
     cast-add-counted
     add-counted-requires

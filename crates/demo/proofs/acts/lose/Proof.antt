@@ -5,7 +5,8 @@ use native.Mathlib.Omega.{arith}
 use Rattle.refusals.proofs.Calls.{is-outcome}
 use Rattle.script.specs.Quoted.{quoted}
 use Rattle.sender.specs.Sender.{sealCall}
-use Rattle.demo.specs.Ends.{frameRoom}
+use Rattle.demo.specs.Ends.{frameRoom, keptAhead}
+use Rattle.demo.proofs.Ends.{sealed-phone}
 use Rattle.demo.proofs.Steps.{line-put, lost}
 use borrow.Author.Needs.{needs}
 use Rattle.demo.proofs.acts.lose.Statement.{statement}
@@ -26,8 +27,8 @@ slice-aggregate-seal-2 c = refl
 seal-requires : tie.Need-seal-requires
 seal-requires c κs = tt
 
-add-sealed-requires : tie.Need-add-sealed-requires
-add-sealed-requires c κs = search needs
+add-sealing-requires : tie.Need-add-sealing-requires
+add-sealing-requires c κs = search needs
 
 slice-aggregate-add-counted : tie.Need-slice-aggregate-add-counted
 slice-aggregate-add-counted c = refl
@@ -44,13 +45,16 @@ same-length c = search needs
 returns : tie.Need-returns
 unfolding frameRoom
 returns c =
-    let at-counted = c .before .before .before .before .before .before .before in
-    let at-sealed = at-counted .before .before .before .before .before in
-    let at-seal = at-sealed .before .before .before in
+    let at-silence = c .before .before .before in
+    let at-counted = at-silence .before .before .before .before in
+    let at-phone = at-counted .before .before .before .before .before in
+    let at-seal = at-phone .before .before .before in
     let at-before = at-seal .before .before .before in
     let at-start = at-before .before .before in
-    lost (at-start .args .stage) (at-start .args .count) (at-before .lose-times .ensures) (is-outcome (sealCall (at-before .lose-times .result) (quoted "lost") frameRoom) (at-seal .seal .ensures))
-    (line-put (omega (arith, at-start .pre .1 .1)) (at-sealed .add-sealed .ensures) (at-counted .add-counted .ensures) (c .before .before .before .add-silence .ensures))
+    let earlier = at-before .lose-times .result in
+    let is = is-outcome (sealCall (keptAhead earlier .sender) (quoted "lost") frameRoom) (at-seal .seal .ensures .answered) in
+    lost (at-start .args .stage) (at-start .args .count) (at-before .lose-times .ensures) is (sealed-phone earlier (at-seal .seal .ensures) is)
+    (line-put (omega (arith, at-start .pre .1 .1)) (at-phone .add-sealing .ensures) (at-counted .add-counted .ensures) (at-silence .add-silence .ensures))
 
 pub lose-spec : {M : Type 1} → statement M
 lose-spec =
@@ -61,7 +65,7 @@ lose-spec =
     slice-aggregate-seal
     slice-aggregate-seal-2
     seal-requires
-    add-sealed-requires
+    add-sealing-requires
     slice-aggregate-add-counted
     add-counted-requires
     add-silence-requires

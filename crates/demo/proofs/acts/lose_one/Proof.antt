@@ -1,11 +1,11 @@
 -- `demo::acts::lose_one` meets its contract.
 -- Assumes nothing.
-use mathlib.Core.Path.{refl, ap}
-use Rattle.refusals.specs.Call.{Outcome}
+use mathlib.Core.Path.{refl}
 use Rattle.refusals.proofs.Calls.{is-outcome}
 use Rattle.script.specs.Quoted.{quoted}
-use Rattle.sender.specs.Sender.{Sealing, sealCall}
-use Rattle.demo.specs.Ends.{frameRoom}
+use Rattle.sender.specs.Sender.{sealCall}
+use Rattle.demo.specs.Ends.{frameRoom, keptAhead}
+use Rattle.demo.proofs.Ends.{sealed-phone}
 use Rattle.demo.proofs.acts.lose_one.Statement.{statement}
 use Rattle.demo.proofs.acts.lose_one.Tie as tie
 
@@ -20,7 +20,10 @@ seal-requires c κs = tt
 
 returns : tie.Need-returns
 unfolding frameRoom
-returns c = ap (λ (s : Outcome Sealing). s .lent .sender) (is-outcome (sealCall (c .before .before .before .before .before .args .phone) (quoted "lost") frameRoom) (c .before .before .seal .ensures))
+returns c =
+    let at-seal = c .before .before in
+    let phone = at-seal .before .before .before .args .phone in
+    sealed-phone phone (at-seal .seal .ensures) (is-outcome (sealCall (keptAhead phone .sender) (quoted "lost") frameRoom) (at-seal .seal .ensures .answered))
 
 pub lose-one-spec : {M : Type 1} → statement M
 lose-one-spec =

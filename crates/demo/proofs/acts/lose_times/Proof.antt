@@ -4,8 +4,8 @@ use Prim.Native.Nat.{ℕ, _-_, _≤_}
 use mathlib.Core.Path.{_≡_, ap, _∙_}
 use native.Mathlib.Omega.{arith}
 use Rattle.script.specs.Quoted.{quoted}
-use Rattle.sender.specs.declared.Sender.{Sender}
-use Rattle.demo.specs.Ends.{phoneAnswer, phoneAfter}
+use Rattle.demo.specs.declared.hosts.Phone.{Phone}
+use Rattle.demo.specs.Ends.{phoneAnswer, afterSealing, phoneAfter}
 use Rattle.demo.proofs.Ends.{phone-next, phone-none}
 use Rattle.demo.proofs.acts.lose_times.Statement.{statement}
 use Rattle.demo.proofs.acts.lose_times.Tie as tie
@@ -33,7 +33,7 @@ loop-again c =
     let at-loop = c .before .before in (
       omega arith,
       c .lose-one .ensures
-          ∙ ap (λ (p : Sender). phoneAnswer p (quoted "lost") .lent .sender) (at-loop .loop .inv .1)
+          ∙ ap (λ (p : Phone). afterSealing p (phoneAnswer p (quoted "lost"))) (at-loop .loop .inv .1)
           ∙ phone-next (at-loop .loop .i) (at-loop .before .args .phone),
     )
 

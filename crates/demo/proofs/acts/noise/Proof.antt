@@ -8,8 +8,7 @@ use mathlib.Core.Path.{refl, sym}
 use native.Mathlib.Omega.{arith}
 use Rattle.lines.specs.Text.{hexOrder, hexOctets}
 use Rattle.lines.proofs.Callers.{put-within}
-use Rattle.demo.specs.Columns.{column}
-use Rattle.demo.proofs.Steps.{front-put, handed-over, stepped-as, noise-none, noise-some}
+use Rattle.demo.proofs.Steps.{line-put, handed-over, stepped-as, noise-none, noise-some}
 use borrow.Author.Needs.{needs}
 use Rattle.demo.proofs.acts.noise.Statement.{statement}
 use Rattle.demo.proofs.acts.noise.Tie as tie
@@ -37,17 +36,23 @@ returns c =
     stepped-as (noise-none (at-start .args .stage) (now (at-start .args .text)) (at-start .pre .0) _ refl (at-octets .octets-of-hex .ensures) (c .before .before .before .before .if1 .taken))
     (c .before .before .nothing .ensures)
 
-slice-aggregate-add : tie.Need-slice-aggregate-add
-slice-aggregate-add c = refl
+slice-aggregate-add-sign : tie.Need-slice-aggregate-add-sign
+slice-aggregate-add-sign c = refl
 
-add-requires : tie.Need-add-requires
-add-requires c κs = search needs
+add-sign-requires : tie.Need-add-sign-requires
+add-sign-requires c κs = search needs
+
+slice-aggregate-add-column : tie.Need-slice-aggregate-add-column
+slice-aggregate-add-column c = refl
+
+add-column-requires : tie.Need-add-column-requires
+add-column-requires c κs = search needs
 
 array-share-prefix-octets : tie.Need-array-share-prefix-octets
-array-share-prefix-octets c = within (c .before .before .before .before .before .before .before .before)
+array-share-prefix-octets c = within (c .before .before .before .before .before .before .before .before .before .before .before .before .before)
 
 slice-aggregate-hand : tie.Need-slice-aggregate-hand
-slice-aggregate-hand c = sym (length-take-le _ _ (within (c .before .before .before .before .before .before .before .before .before)))
+slice-aggregate-hand c = sym (length-take-le _ _ (within (c .before .before .before .before .before .before .before .before .before .before .before .before .before .before)))
 
 hand-requires : tie.Need-hand-requires
 hand-requires c κs = search needs
@@ -56,16 +61,16 @@ same-length-2 : tie.Need-same-length-2
 same-length-2 c = search needs
 
 returns-2 : tie.Need-returns-2
-unfolding column
 returns-2 c =
     let at-hand = c .before .before .before in
-    let at-words = at-hand .before .before .before .before .before in
-    let at-some = at-words .before .before .before in
+    let at-word = at-hand .before .before .before .before .before in
+    let at-hyphen = at-word .before .before .before .before .before in
+    let at-some = at-hyphen .before .before .before in
     let at-octets = at-some .before .before .before in
     let at-start = at-octets .before .before .before .before in
     stepped-as (noise-some (at-start .args .stage) (now (at-start .args .text)) (at-start .pre .0) _ refl (at-octets .octets-of-hex .ensures) (at-some .if1 .left))
     (handed-over (at-start .args .stage) _ (at-hand .hand .ensures .cell-is)
-    (front-put (omega (arith, at-start .pre .1)) (at-words .add .ensures) (at-hand .hand .ensures .columns-are)))
+    (line-put (omega (arith, at-start .pre .1)) (at-hyphen .add-sign .ensures) (at-word .add-column .ensures) (at-hand .hand .ensures .columns-are)))
 
 pub noise-spec : {M : Type 1} → statement M
 noise-spec =
@@ -76,8 +81,10 @@ noise-spec =
     nothing-requires
     same-length
     returns
-    slice-aggregate-add
-    add-requires
+    slice-aggregate-add-sign
+    add-sign-requires
+    slice-aggregate-add-column
+    add-column-requires
     array-share-prefix-octets
     slice-aggregate-hand
     hand-requires

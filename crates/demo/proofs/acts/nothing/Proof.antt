@@ -8,11 +8,11 @@ use borrow.Author.Needs.{needs}
 use Rattle.demo.proofs.acts.nothing.Statement.{statement}
 use Rattle.demo.proofs.acts.nothing.Tie as tie
 
-slice-aggregate-add-column : tie.Need-slice-aggregate-add-column
-slice-aggregate-add-column c = refl
+slice-aggregate-add-sign : tie.Need-slice-aggregate-add-sign
+slice-aggregate-add-sign c = refl
 
-add-column-requires : tie.Need-add-column-requires
-add-column-requires c κs = search needs
+add-sign-requires : tie.Need-add-sign-requires
+add-sign-requires c κs = search needs
 
 add-why-requires : tie.Need-add-why-requires
 add-why-requires c κs = search needs
@@ -26,19 +26,20 @@ same-length c = search needs
 returns : tie.Need-returns
 unfolding nothing
 returns c =
-    let at-why = c .before .before .before .before .before .before in
+    let at-silence = c .before .before in
+    let at-why = at-silence .before .before .before .before in
     let at-bad = at-why .before .before .before .before in
     record {
       stage-is = refl;
-      said-is = line-put (omega (arith, at-bad .before .before .before .before .pre)) (at-bad .add-column .ensures) (at-why .add-why .ensures) (c .before .before .add-silence .ensures);
+      said-is = line-put (omega (arith, at-bad .before .before .before .before .pre)) (at-bad .add-sign .ensures) (at-why .add-why .ensures) (at-silence .add-silence .ensures);
     }
 
 pub nothing-spec : {M : Type 1} → statement M
 nothing-spec =
     tie.close
     (tie.spec
-    slice-aggregate-add-column
-    add-column-requires
+    slice-aggregate-add-sign
+    add-sign-requires
     add-why-requires
     add-silence-requires
     same-length

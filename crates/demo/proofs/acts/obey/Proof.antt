@@ -84,6 +84,48 @@ noise-requires c κs =
 enum-known-what-4 : tie.Need-enum-known-what-4
 enum-known-what-4 c = search needs
 
+store-phone-requires : tie.Need-store-phone-requires
+store-phone-requires c κs = (possible (c .before .before .before .before) (c .before .before .what4 .given .1), search needs)
+
+enum-told-4 : tie.Need-enum-told-4
+enum-told-4 c = search needs
+
+tell-phone-requires : tie.Need-tell-phone-requires
+tell-phone-requires c κs = search needs
+
+enum-told-5 : tie.Need-enum-told-5
+enum-told-5 c = search needs
+
+cut-phone-requires : tie.Need-cut-phone-requires
+cut-phone-requires c κs = search needs
+
+enum-told-6 : tie.Need-enum-told-6
+enum-told-6 c = search needs
+
+restart-phone-requires : tie.Need-restart-phone-requires
+restart-phone-requires c κs = search needs
+
+enum-told-7 : tie.Need-enum-told-7
+enum-told-7 c = search needs
+
+store-cell-requires : tie.Need-store-cell-requires
+store-cell-requires c κs = search needs
+
+enum-told-8 : tie.Need-enum-told-8
+enum-told-8 c = search needs
+
+cut-cell-requires : tie.Need-cut-cell-requires
+cut-cell-requires c κs = search needs
+
+enum-told-9 : tie.Need-enum-told-9
+enum-told-9 c = search needs
+
+restart-cell-requires : tie.Need-restart-cell-requires
+restart-cell-requires c κs = search needs
+
+enum-known-what-5 : tie.Need-enum-known-what-5
+enum-known-what-5 c = search needs
+
 nothing-requires : tie.Need-nothing-requires
 nothing-requires c κs = search needs
 
@@ -133,7 +175,49 @@ same-length-7 : tie.Need-same-length-7
 same-length-7 c = search needs
 
 returns-7 : tie.Need-returns-7
-returns-7 c = stepped-as (step (c .before .before .before .before .before .before .before) (c .before .before .before .before .before .what4 .given .1)) (c .before .before .nothing .ensures)
+returns-7 c = stepped-as (step (c .before .before .before .before .before .before .before) (c .before .before .before .before .before .what4 .given .1)) (c .before .before .store-phone .ensures)
+
+same-length-8 : tie.Need-same-length-8
+same-length-8 c = search needs
+
+returns-8 : tie.Need-returns-8
+returns-8 c = stepped-as (step (c .before .before .before .before .before .before) (c .before .before .before .before .enum-told4 .given .1)) (c .before .before .tell-phone .ensures)
+
+same-length-9 : tie.Need-same-length-9
+same-length-9 c = search needs
+
+returns-9 : tie.Need-returns-9
+returns-9 c = stepped-as (step (c .before .before .before .before .before .before) (c .before .before .before .before .enum-told5 .given .1)) (c .before .before .cut-phone .ensures)
+
+same-length-10 : tie.Need-same-length-10
+same-length-10 c = search needs
+
+returns-10 : tie.Need-returns-10
+returns-10 c = stepped-as (step (c .before .before .before .before .before .before) (c .before .before .before .before .enum-told6 .given .1)) (c .before .before .restart-phone .ensures)
+
+same-length-11 : tie.Need-same-length-11
+same-length-11 c = search needs
+
+returns-11 : tie.Need-returns-11
+returns-11 c = stepped-as (step (c .before .before .before .before .before .before) (c .before .before .before .before .enum-told7 .given .1)) (c .before .before .store-cell .ensures)
+
+same-length-12 : tie.Need-same-length-12
+same-length-12 c = search needs
+
+returns-12 : tie.Need-returns-12
+returns-12 c = stepped-as (step (c .before .before .before .before .before .before) (c .before .before .before .before .enum-told8 .given .1)) (c .before .before .cut-cell .ensures)
+
+same-length-13 : tie.Need-same-length-13
+same-length-13 c = search needs
+
+returns-13 : tie.Need-returns-13
+returns-13 c = stepped-as (step (c .before .before .before .before .before .before) (c .before .before .before .before .enum-told9 .given .1)) (c .before .before .restart-cell .ensures)
+
+same-length-14 : tie.Need-same-length-14
+same-length-14 c = search needs
+
+returns-14 : tie.Need-returns-14
+returns-14 c = stepped-as (step (c .before .before .before .before .before .before .before) (c .before .before .before .before .before .what5 .given .1)) (c .before .before .nothing .ensures)
 
 pub obey-spec : {M : Type 1} → statement M
 obey-spec =
@@ -156,6 +240,20 @@ obey-spec =
     rest-requires-3
     noise-requires
     enum-known-what-4
+    store-phone-requires
+    enum-told-4
+    tell-phone-requires
+    enum-told-5
+    cut-phone-requires
+    enum-told-6
+    restart-phone-requires
+    enum-told-7
+    store-cell-requires
+    enum-told-8
+    cut-cell-requires
+    enum-told-9
+    restart-cell-requires
+    enum-known-what-5
     nothing-requires
     same-length
     returns
@@ -170,4 +268,18 @@ obey-spec =
     same-length-6
     returns-6
     same-length-7
-    returns-7)
+    returns-7
+    same-length-8
+    returns-8
+    same-length-9
+    returns-9
+    same-length-10
+    returns-10
+    same-length-11
+    returns-11
+    same-length-12
+    returns-12
+    same-length-13
+    returns-13
+    same-length-14
+    returns-14)

@@ -38,7 +38,7 @@ unfolding whyWords
 returns c =
     let at-row = c .before .before .before .before in
     let given = at-row .before .before .before .args in
-    subst (λ (l : List ℕ). Added (column l) (now (given .output)) 11 22 (c .before .before .add-row .last .1 .1 .0))
+    subst (λ (l : List ℕ). Added (column l) (now (given .output)) 22 33 (c .before .before .add-row .last .1 .1 .0))
     (ap (λ (n : ℕ). take 10 (drop (10 * n) (joined whyWords))) (at-row .row-of .ensures) ∙ why-row (given .why))
     (c .before .before .add-row .ensures)
 
