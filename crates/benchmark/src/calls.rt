@@ -43,11 +43,16 @@ pub(crate) fn block(key: &[u8], number: u32, before: u8) -> u8 {
     before ^ (ciphered.block % 256) as u8
 }
 
-// A sender whose next frame has this number.
+// A sender whose next frame has this number, as it is after it was told a reservation. The telling is not timed: a host does it once in many frames.
 fn sender_at(key: &[u8], number: u32) -> Sender {
     let opened = link::open_link(key, IOV, SAPI, DIRECTION);
     let link = opened.link;
-    Sender { link, next: number }
+    let next = number % 134_217_728;
+    Sender {
+        link,
+        next,
+        reserved: next + 1,
+    }
 }
 
 // The frame with a payload of zeros.

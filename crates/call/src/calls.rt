@@ -6,6 +6,7 @@ use crate::ciphers;
 use crate::ends;
 use crate::fields;
 use crate::fields::Given;
+use crate::forms;
 use crate::headers;
 use crate::links;
 use crate::messages;
@@ -62,14 +63,17 @@ pub(crate) fn answer(line: &[u8]) -> bool {
         look:H0x header:H1x \
         open_link:L0x411 link_can_arise:L1k411 \
         open_sender:E0x411 open_receiver:E1x411 \
+        reserve:A0k411444 sender_can_arise:A1k41144 receiver_can_arise:A2k41144 \
+        restore_sender:R0x restore_receiver:R1x \
         gsm:g0x4ss ecsd:g1x4ss \
-        seal:s0k4114xs open:o0k41144xs \
+        seal:s0k41144xs open:o0k41144xs \
         kgcore:c0x114124s gea4:c1x414s \
         f8:m0x411x4s \
         aes:b0xxs \
         opc:p0xxs f1:q0xxxxxs f1_star:q1xxxxxs f2:f2xxxs f3:f3xxxs f4:f4xxxs f5:f5xxxs f5_star:f6xxxs \
         cut:x0x44s xor:x1xxs \
         put_header:h0114ss \
+        store_sender:e0k411444s store_receiver:e1k41144s \
         cipher:l0k4114xs",
         &mut given,
     );
@@ -97,6 +101,8 @@ fn told(found: Found, given: &Given) -> bool {
         b'H' => headers::answer(found.which, given),
         b'L' => links::answer(found.which, given),
         b'E' => ends::answer(found.which, given),
+        b'A' => ends::ask(found.which, given),
+        b'R' => forms::answer(found.which, given),
         _ => lend(found, given),
     }
 }
@@ -132,6 +138,7 @@ fn put(whose: u8, which: u8, given: &Given, output: &mut [u8]) -> u8 {
         b'q' => challenges::put_code(which, given, output),
         b'x' => bits::put(which, given, output),
         b'h' => headers::put_header(given, output),
+        b'e' => forms::put(which, given, output),
         _ => links::cipher(given, output),
     }
 }

@@ -6,6 +6,7 @@ mod challenges;
 mod ciphers;
 mod ends;
 mod fields;
+mod forms;
 mod headers;
 mod links;
 mod messages;

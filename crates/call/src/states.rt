@@ -4,7 +4,9 @@ use crate::fields::Given;
 use crate::tell;
 use link::Link;
 use numbering::Numbering;
+use receiver::OpenedReceiver;
 use receiver::Receiver;
+use sender::OpenedSender;
 use sender::Sender;
 
 // The 16 octets of a field.
@@ -36,16 +38,24 @@ pub(crate) fn tell_numbering(numbering: Numbering) -> bool {
     tell::next_number(numbering.next as u64) & tell::next_number(numbering.marks as u64)
 }
 
-// LINK NEXT
+// LINK NEXT RESERVED
 pub(crate) fn sender(given: &Given) -> Sender {
     Sender {
         link: link(given),
         next: fields::number32(given, 5),
+        reserved: fields::number32(given, 6),
     }
 }
 
 pub(crate) fn tell_sender(sender: Sender) -> bool {
-    tell_link(sender.link) & tell::next_number(sender.next as u64)
+    tell_link(sender.link)
+        & tell::next_number(sender.next as u64)
+        & tell::next_number(sender.reserved as u64)
+}
+
+// What opening a sender answers, and restoring one.
+pub(crate) fn tell_opened_sender(opened: OpenedSender) -> bool {
+    tell::refusal(opened.refusal) & tell_sender(opened.sender)
 }
 
 // LINK NEXT MARKS
@@ -61,4 +71,8 @@ pub(crate) fn receiver(given: &Given) -> Receiver {
 
 pub(crate) fn tell_receiver(receiver: Receiver) -> bool {
     tell_link(receiver.link) & tell_numbering(receiver.numbering)
+}
+
+pub(crate) fn tell_opened_receiver(opened: OpenedReceiver) -> bool {
+    tell::refusal(opened.refusal) & tell_receiver(opened.receiver)
 }

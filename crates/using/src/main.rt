@@ -1,4 +1,4 @@
-// A phone and a cell in one program: what a program of your own does to send texts over a link, and to receive them.
+// A phone and a cell in one program: what a program of your own does to send texts over a link, to receive them, and to go on after a pulled plug.
 ghost use Rattle.io.specs.Counts.{Counts};
 use libc::STDOUT_FILENO;
 use receiver::Opened;
@@ -15,6 +15,34 @@ const SAPI: u8 = 3;
 
 const DIRECTION: u8 = 0;
 
+// Writes a number between two texts.
+fn tell(before: &[u8], number: u64, after: &[u8]) {
+    io::write_all(STDOUT_FILENO, before);
+    io::print_decimal(STDOUT_FILENO, number);
+    io::write_all(STDOUT_FILENO, after);
+}
+
+// The highest reservation for a phone with this next number.
+fn highest(next: u32) -> u32 {
+    if numbering::END - sender::AHEAD < next {
+        return numbering::END;
+    }
+    next + sender::AHEAD
+}
+
+// Stores a higher reservation, and only then tells it to the phone. A buffer stands for the disk; your program writes the form to one in between.
+fn reserve(phone: Sender, disk: &mut [u8]) -> Sender {
+    let reserved = highest(phone.next);
+    let refusal = stored::store_sender(phone, reserved, disk);
+    if refusal != 0 {
+        tell(b"store: refused ", refusal as u64, b"\n");
+        return phone;
+    }
+    tell(b"store: numbers below ", reserved as u64, b"\n");
+    let told = sender::reserve(phone, reserved);
+    told.sender
+}
+
 // Seals a text. The frame is the first `size` octets of the buffer.
 fn seal(phone: Sender, text: &[u8], frame: &mut [u8]) -> Sealed
     ensures { λ r. ⌜ Counts (r .size) (now (frame .exit)) ⌝ }
@@ -22,18 +50,23 @@ fn seal(phone: Sender, text: &[u8], frame: &mut [u8]) -> Sealed
     sender::seal(phone, text, frame)
 }
 
+// Seals a text. Where 13 says that the reservation is used up, stores and tells a higher one, and seals then.
+fn send(phone: Sender, text: &[u8], frame: &mut [u8], disk: &mut [u8]) -> Sealed
+    ensures { λ r. ⌜ Counts (r .size) (now (frame .exit)) ⌝ }
+{
+    let sealed = seal(phone, text, frame);
+    if sealed.refusal != refusals::RESERVE {
+        return sealed;
+    }
+    let ready = reserve(sealed.sender, disk);
+    seal(ready, text, frame)
+}
+
 // Opens a frame. The text is the first `size` octets of the buffer.
 fn open(cell: Receiver, frame: &[u8], text: &mut [u8]) -> Opened
     ensures { λ r. ⌜ Counts (r .size) (now (text .exit)) ⌝ }
 {
     receiver::open(cell, frame, text)
-}
-
-// Writes a number between two texts.
-fn tell(before: &[u8], number: u64, after: &[u8]) {
-    io::write_all(STDOUT_FILENO, before);
-    io::print_decimal(STDOUT_FILENO, number);
-    io::write_all(STDOUT_FILENO, after);
 }
 
 fn tell_sealed(sealed: Sealed) {
@@ -68,6 +101,22 @@ fn receive(cell: Receiver, frame: &[u8]) -> Receiver {
     opened.receiver
 }
 
+// After a cut: the phone is made from what the disk has, and goes on at its reservation.
+fn restart(disk: &mut [u8], cell: Receiver) {
+    let restored = stored::restore_sender(disk);
+    if restored.refusal != 0 {
+        tell(b"restore_sender: refused ", restored.refusal as u64, b"\n");
+        return;
+    }
+    let phone = restored.sender;
+    tell(b"restore: next number ", phone.next as u64, b"\n");
+    let mut frame = [0u8; 1526];
+    let again = send(phone, b"back on the air", &mut frame, disk);
+    tell_sealed(again);
+    let size = again.size;
+    receive(cell, &frame[..size]);
+}
+
 // Each call is given the state that the call before it handed back, whether that was refused or not.
 fn main() {
     let phone = sender::open_sender(&KEY, IOV, SAPI, DIRECTION);
@@ -81,17 +130,21 @@ fn main() {
         return;
     }
 
+    let mut disk = [0u8; 29];
     let mut frame = [0u8; 1526];
-    let nothing = seal(phone.sender, b"", &mut frame);
+    let nothing = send(phone.sender, b"", &mut frame, &mut disk);
     tell_sealed(nothing);
-    let hello = seal(nothing.sender, b"hello, cell", &mut frame);
+    let hello = send(nothing.sender, b"hello, cell", &mut frame, &mut disk);
     tell_sealed(hello);
     let size = hello.size;
     let once = receive(cell.receiver, &frame[..size]);
     let twice = receive(once, &frame[..size]);
 
-    let question = seal(hello.sender, b"how do you read me?", &mut frame);
+    let question = send(hello.sender, b"how do you read me?", &mut frame, &mut disk);
     tell_sealed(question);
     let size = question.size;
-    receive(twice, &frame[..size]);
+    let after = receive(twice, &frame[..size]);
+
+    // The plug is pulled, and what is left of the phone is its form on the disk.
+    restart(&mut disk, after);
 }
