@@ -2,10 +2,13 @@
 //! a cell opens, and each line shows what they did. Follows docs/BENCH.md and, for the two ends,
 //! document 01, "The link".
 
+mod plug;
+
 use crate::lines::{based, lines, octets};
 use crate::link::ends::{open, seal, Answer};
 use crate::link::states::{open_receiver, open_sender, Receiver, Sender};
 use crate::refusals::{NONE, REPEAT, ROOM};
+use plug::Stored;
 
 /// A key that everybody may know.
 const KEY: [u8; 16] = [0, 1, 2, 3, 4, 5, 6, 7, 8, 9, 10, 11, 12, 13, 14, 15];
@@ -14,9 +17,9 @@ const KEY: [u8; 16] = [0, 1, 2, 3, 4, 5, 6, 7, 8, 9, 10, 11, 12, 13, 14, 15];
 const IOV: u32 = 0x0123_4567;
 
 /// The words of the refusal table, by their numbers.
-const REASONS: [&str; 12] = [
+const REASONS: [&str; 13] = [
     "key", "range", "size", "room", "length", "version", "spare", "other", "start", "end",
-    "repeat", "state",
+    "repeat", "state", "reserve",
 ];
 
 /// A line that is kept whole has at most 48 octets.
@@ -36,20 +39,24 @@ pub fn output(input: &[u8]) -> Vec<u8> {
 
 /// What a heading says.
 fn heading() -> String {
-    row(["phone", "box", "number", "answer", "next"].map(String::from), "text")
+    row(["phone", "reserved", "box", "number", "answer", "next"].map(String::from), "text")
 }
 
 struct Bench {
     phone: Sender,
     cell: Receiver,
     shelf: [Vec<u8>; 10],
+    stored: Stored,
+    /// Whether the script has told of the phone's reservation itself.
+    by_hand: bool,
 }
 
 impl Bench {
     fn new() -> Bench {
         let (_, phone) = open_sender(&KEY, IOV, 3, 0);
         let (_, cell) = open_receiver(&KEY, IOV, 3, 0);
-        Bench { phone, cell, shelf: Default::default() }
+        let stored = Stored::new(phone, cell);
+        Bench { phone, cell, shelf: Default::default(), stored, by_hand: false }
     }
 
     fn answer(&mut self, line: &[u8]) -> String {
@@ -67,6 +74,18 @@ impl Bench {
         }
         if text.starts_with('#') {
             return format!("{text}\n");
+        }
+        match text {
+            "tell phone" => return self.tell_phone(),
+            "cut phone" => return self.cut_phone(),
+            "restart phone" => return self.restart_phone(),
+            "store cell" => return self.store_cell(),
+            "cut cell" => return self.cut_cell(),
+            "restart cell" => return self.restart_cell(),
+            _ => {}
+        }
+        if let Some(count) = text.strip_prefix("store phone ") {
+            return self.store_phone(count);
         }
         match text.split_once(' ') {
             Some(("pass", text)) => self.pass(text),
@@ -123,6 +142,7 @@ impl Bench {
 
     /// What the phone's column shows, and the frame, which is empty where it is refused.
     fn seal(&mut self, text: &str) -> (String, Vec<u8>) {
+        self.reserve_ahead();
         let mut frame = vec![0; FRAME];
         let Answer { refusal, number, length, state } =
             seal(self.phone, text.as_bytes(), &mut frame);
@@ -144,12 +164,25 @@ impl Bench {
             NONE => shown(&text[..length]),
             _ => NOTHING.to_string(),
         };
-        row([phone, did, number, named(refusal), state.next.to_string()], &text)
+        self.row(phone, did, number, named(refusal), &text)
     }
 
     fn nothing_handed(&self, phone: String, did: String) -> String {
         let nothing = || NOTHING.to_string();
-        row([phone, did, nothing(), nothing(), self.cell.next.to_string()], NOTHING)
+        self.row(phone, did, nothing(), nothing(), NOTHING)
+    }
+
+    /// The columns of a line; the phone's reservation and the cell's V are those afterwards.
+    fn row(
+        &self,
+        phone: String,
+        did: String,
+        number: String,
+        answer: String,
+        text: &str,
+    ) -> String {
+        let (reserved, next) = (self.phone.reserved.to_string(), self.cell.next.to_string());
+        row([phone, reserved, did, number, answer, next], text)
     }
 
     fn bad(&self, why: &str) -> String {
@@ -174,36 +207,36 @@ fn shown(text: &[u8]) -> String {
     text.iter().map(|&octet| if (32..127).contains(&octet) { octet.into() } else { '.' }).collect()
 }
 
-/// Five columns of eleven octets, then the text.
-fn row(columns: [String; 5], text: &str) -> String {
+/// Six columns of eleven octets, then the text.
+fn row(columns: [String; 6], text: &str) -> String {
     let columns: String = columns.iter().map(|column| format!("{column:<11}")).collect();
     format!("{columns}{text}\n")
 }
 
 #[cfg(test)]
-mod tests {
+pub mod tests {
     use super::*;
 
-    fn said(input: &[u8]) -> Vec<String> {
+    pub fn said(input: &[u8]) -> Vec<String> {
         let output = String::from_utf8(output(input)).expect("all that is shown is ASCII");
         output.lines().map(|line| line.split_whitespace().collect::<Vec<_>>().join(" ")).collect()
     }
 
     #[test]
     fn empty_input_has_the_heading_alone() {
-        assert_eq!(said(b""), ["phone box number answer next text"]);
+        assert_eq!(said(b""), ["phone reserved box number answer next text"]);
     }
 
     #[test]
     fn a_repeat_a_late_frame_and_a_loss() {
         let script = b"pass a b\nkeep 3 c\nlose 2\npass d\ngive 3\ngive 3";
         let expected = [
-            "0 passed 0 ok 1 a b",
-            "1 kept 3 - - 1 -",
-            "3 lost 2 - - 1 -",
-            "4 passed 4 ok 5 d",
-            "- gave 3 1 ok 5 c",
-            "- gave 3 1 11 repeat 5 -",
+            "0 64 passed 0 ok 1 a b",
+            "1 64 kept 3 - - 1 -",
+            "3 64 lost 2 - - 1 -",
+            "4 64 passed 4 ok 5 d",
+            "- 64 gave 3 1 ok 5 c",
+            "- 64 gave 3 1 11 repeat 5 -",
         ];
         assert_eq!(said(script)[1..], expected);
     }
@@ -211,11 +244,11 @@ mod tests {
     #[test]
     fn of_480_lost_frames_the_next_is_misread() {
         let told = said(b"pass a\nlose 480\npass b");
-        assert_eq!(told[3].split(' ').collect::<Vec<_>>()[..4], ["481", "passed", "-", "9"]);
+        assert_eq!(told[3].split(' ').collect::<Vec<_>>()[..5], ["481", "512", "passed", "-", "9"]);
         let told = said(b"lose 99\npass a\nlose 480\npass b");
-        assert!(told[4].starts_with("580 passed 68 ok 100 "));
+        assert!(told[4].starts_with("580 640 passed 68 ok 100 "));
         let told = said(b"lose 99\npass a\nlose 479\npass b");
-        assert_eq!(told[4], "579 passed 579 ok 580 b");
+        assert_eq!(told[4], "579 640 passed 579 ok 580 b");
     }
 
     #[test]
@@ -224,6 +257,7 @@ mod tests {
             keep 10 a\ngive\ngive a\ngive 1 \nnoise 1\nnoise g0\npass a\r\npass \xC3\xA9\npass a\t";
         let why: Vec<String> =
             said(script)[1..].iter().map(|line| line.replace(" - - 0 -", "")).collect();
+        let why: Vec<String> = why.iter().map(|line| line.replace("? 0 ", "? ")).collect();
         let expected = "? empty|? command|? command|? command|? count|? count|? count|? command\
             |? place|? place|? place|? command|? place|? place|? hex|? hex|? octet|? octet|? octet";
         assert_eq!(why.join("|"), expected);
@@ -233,9 +267,9 @@ mod tests {
     fn the_phone_refuses_too() {
         let long = format!("pass {}\nkeep 1 {}\n", "a".repeat(41), "a".repeat(41));
         let told = said(format!("pass \n{long}give 1").as_bytes());
-        assert_eq!(told[1], "3 size passed - 5 length 0 -");
-        assert_eq!(told[2], "4 room passed - 5 length 0 -");
-        assert_eq!(told[3], "4 room kept 1 - - 0 -");
-        assert_eq!(told[4], "- gave 1 - 5 length 0 -");
+        assert_eq!(told[1], "3 size 64 passed - 5 length 0 -");
+        assert_eq!(told[2], "4 room 64 passed - 5 length 0 -");
+        assert_eq!(told[3], "4 room 64 kept 1 - - 0 -");
+        assert_eq!(told[4], "- 64 gave 1 - 5 length 0 -");
     }
 }

@@ -42,6 +42,7 @@ second cases stream    a test input for `stream`
 second cases call      a test input for `call`
 second cases walk      a test input for `walk`
 second cases demo      a test input for `demo`
+second cases demo N    a random script for `demo`, another for each N
 second cases challenge a test input for `challenge`
 second cases sweep     an input for `call`: V from 0 to 600 against every N
 second huge stream     an input for `stream` with lines of a megabyte
@@ -77,6 +78,10 @@ fn output(words: &[&str]) -> Result<Vec<u8>, String> {
         ["cases", "call"] => Ok(call::input().into()),
         ["cases", "walk"] => Ok(cases::walk::input().into()),
         ["cases", "demo"] => Ok(cases::demo::input().into()),
+        ["cases", "demo", number] => {
+            let number = number.parse().map_err(|_| "N is a number of 64 bits")?;
+            Ok(cases::demo::script(number).into())
+        }
         ["cases", "challenge"] => Ok(cases::challenge::input().into()),
         ["cases", "sweep"] => Ok(call::sweep().into()),
         ["huge", "stream"] => Ok(cases::huge::stream()),

@@ -1,5 +1,5 @@
 //! The refusal numbers, and which of several causes is named.
-//! Follows document 01, "Refusal numbers".
+//! Follows document 01, "Refusal numbers", and document 02, item 4, for the thirteenth.
 
 /// A success has refusal number 0.
 pub const NONE: u8 = 0;
@@ -16,6 +16,7 @@ pub const START: u8 = 9;
 pub const END: u8 = 10;
 pub const REPEAT: u8 = 11;
 pub const STATE: u8 = 12;
+pub const RESERVE: u8 = 13;
 
 /// Of several causes the first in the order of the list is named.
 pub fn first(causes: &[(u8, bool)]) -> u8 {

@@ -131,8 +131,9 @@ pub fn recorded(file: &str) -> Result<Vec<Recorded>, String> {
             sapi: set.decimal("sapi")?,
             direction: set.decimal("direction")?,
         };
+        let next = set.decimal("n")?;
         Ok(Recorded {
-            sender: Sender { link, next: set.decimal("n")? },
+            sender: Sender { link, next, reserved: next + 1 },
             input: set.hex("input")?,
             keystream: set.octets("output")?,
         })

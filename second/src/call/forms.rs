@@ -13,7 +13,13 @@ const NO_NUMBERS: &str = " - -1 +1 1x x1 0x 0X1 00x1 0x0x1 1,0 1.0 1_0 A 0xG 0x-
 const NO_CALLS: &str = "| |  |\r|\t|?|-|0|call|stream|walk|walk 5|gea3|look_refusal 00050131001A55\
     |kasumi|cut|start |start  | start|start 0|start -|start\r|START|starts|star|look|look |look  \
     |decimal 3132|silence|walks_start|bench_start|f8|f9|f8 |check_code|check|f\
-    |aes|expand_key|encrypt_block|milenage|challenge|opc|op|f0|f1|f1*|f2|f3|f4|f5|f5*|f6|f2_star";
+    |aes|expand_key|encrypt_block|milenage|challenge|opc|op|f0|f1|f1*|f2|f3|f4|f5|f5*|f6|f2_star\
+    |reserve|store|restore|store_sender|store_receiver|restore_sender|restore_receiver|store_link\
+    |can_arise|sender_can_arise|receiver_can_arise|cut_sender|stored|restore_sender  -|reserved";
+
+/// The stored form of a sender that stands at 9, and of a receiver that has accepted 0 alone.
+const SENDER_FORM: &str = "001B01000102030405060708090A0B0C0D0E0F12345678030100000009";
+const RECEIVER_FORM: &str = "001F01000102030405060708090A0B0C0D0E0F1234567803010000000100000001";
 
 /// A form taken apart: the name, and the type of each field.
 struct Form {
@@ -26,10 +32,8 @@ enum Type {
     Octets(&'static str),
     /// So many octets and no others: the key of a state, what the rounds are lent, a block of AES.
     Exactly(usize),
-    /// A number of octets, with the largest.
-    Size(u64),
-    /// Another number, with the largest.
-    Number(u64),
+    /// A number, of octets or another, with one that does and the largest.
+    Number { good: u64, largest: u64 },
 }
 
 impl Form {
@@ -70,16 +74,22 @@ impl Type {
             None if ["KEY", "OP", "OPC", "RAND", "BLOCK"].contains(&field) => Type::Octets(KEY),
             None if field == "SQN" => Type::Octets("ff9BB4D0b607"),
             None if field == "FRAME" => Type::Octets("00050111000155"),
+            None if field == "SENDER_FORM" => Type::Octets(SENDER_FORM),
+            None if field == "RECEIVER_FORM" => Type::Octets(RECEIVER_FORM),
             None => Type::Octets("c0DE"),
             Some((_, "key" | "block")) => Type::Exactly(16),
             Some((_, "words")) => Type::Exactly(176),
             Some((_, "table")) => Type::Exactly(1_280),
             Some((_, "keys")) => Type::Exactly(128),
-            Some((_, "size")) => Type::Size(65_600),
-            Some((_, "u8")) => Type::Number(u8::MAX.into()),
-            Some((_, "u16")) => Type::Number(u16::MAX.into()),
-            Some((_, "u32")) => Type::Number(u32::MAX.into()),
-            Some((_, "u64")) => Type::Number(u64::MAX),
+            Some((_, "size")) => Type::Number { good: 64, largest: 65_600 },
+            // Above the next number, which is 1 in a good line.
+            Some(("RESERVED" | "RESERVATION", _)) => {
+                Type::Number { good: 9, largest: u32::MAX.into() }
+            }
+            Some((_, "u8")) => Type::Number { good: 1, largest: u8::MAX.into() },
+            Some((_, "u16")) => Type::Number { good: 1, largest: u16::MAX.into() },
+            Some((_, "u32")) => Type::Number { good: 1, largest: u32::MAX.into() },
+            Some((_, "u64")) => Type::Number { good: 1, largest: u64::MAX },
             Some((_, other)) => panic!("{other} is no type of a field"),
         }
     }
@@ -89,20 +99,21 @@ impl Type {
         match self {
             Type::Octets(octets) => octets.to_string(),
             Type::Exactly(count) => KEY.repeat(count / 16),
-            Type::Size(_) => "64".to_string(),
-            Type::Number(_) => "1".to_string(),
+            Type::Number { good, .. } => good.to_string(),
         }
     }
 
     /// The same field in other forms.
     fn same_forms(&self) -> Vec<String> {
-        let forms: &[&str] = match self {
-            Type::Octets(octets) => return vec![octets.to_lowercase(), octets.to_uppercase()],
-            Type::Exactly(_) => return vec![self.good().to_lowercase()],
-            Type::Size(_) => &["0064", "0000000064", "0x40", "0x040", "0x0000000000000040"],
-            Type::Number(_) => &["0001", "0000000001", "0x1", "0x01", "0x0000000000000001"],
-        };
-        forms.iter().map(|form| form.to_string()).collect()
+        match self {
+            Type::Octets(octets) => vec![octets.to_lowercase(), octets.to_uppercase()],
+            Type::Exactly(_) => vec![self.good().to_lowercase()],
+            Type::Number { good, .. } => {
+                let decimal = [format!("{good:04}"), format!("{good:010}")];
+                let hex = [format!("0x{good:x}"), format!("0x0{good:x}"), format!("0x{good:016x}")];
+                decimal.into_iter().chain(hex).collect()
+            }
+        }
     }
 
     /// None, one and the most octets; the least and the largest number.
@@ -110,9 +121,7 @@ impl Type {
         match self {
             Type::Octets(_) => vec!["-".to_string(), "00".to_string(), "5a".repeat(2_560)],
             Type::Exactly(count) => vec!["00".repeat(*count), "fF".repeat(*count)],
-            Type::Size(largest) | Type::Number(largest) => {
-                vec!["0".to_string(), format!("0x{largest:x}")]
-            }
+            Type::Number { largest, .. } => vec!["0".to_string(), format!("0x{largest:x}")],
         }
     }
 
@@ -124,7 +133,7 @@ impl Type {
                 let lengths = [1, 8, count - 1, count + 1, 2_560].map(|octets| "5A".repeat(octets));
                 [no_octets(), vec!["-".to_string()], lengths.to_vec()].concat()
             }
-            Type::Size(largest) | Type::Number(largest) => {
+            Type::Number { largest, .. } => {
                 let mut forms: Vec<String> = NO_NUMBERS.split(' ').map(str::to_string).collect();
                 forms.extend(largest.checked_add(1).map(|above| above.to_string()));
                 forms.extend(largest.checked_add(1).map(|above| format!("0x{above:X}")));

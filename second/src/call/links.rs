@@ -108,7 +108,7 @@ mod tests {
 
     #[test]
     fn a_sealed_frame_holds_the_ciphered_payload() {
-        let sealed = answer_to("seal K 0x1234567 3 0 580 48656C6C6F 11");
+        let sealed = answer_to("seal K 0x1234567 3 0 580 600 48656C6C6F 11");
         let ciphered = answer_to("cipher K 0x1234567 3 0 580 48656C6C6F 5");
         assert_eq!(sealed[sealed.len() - 10..], ciphered[2..]);
     }

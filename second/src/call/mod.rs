@@ -21,6 +21,7 @@ mod milenage;
 mod numbers;
 mod pair;
 mod rounds;
+mod stored;
 
 use crate::cases::ended;
 use crate::lines::fields;
@@ -41,7 +42,7 @@ struct Subject {
     cases: fn() -> Vec<String>,
 }
 
-const SUBJECTS: [Subject; 10] = [
+const SUBJECTS: [Subject; 11] = [
     ciphers::SUBJECT,
     rounds::SUBJECT,
     pair::SUBJECT,
@@ -52,6 +53,7 @@ const SUBJECTS: [Subject; 10] = [
     headers::SUBJECT,
     links::SUBJECT,
     ends::SUBJECT,
+    stored::SUBJECT,
 ];
 
 /// The answer to a line, or nothing for a line that is not of the form.

@@ -73,10 +73,9 @@ mod tests {
         let output = String::from_utf8(demo::output(&super::demo())).expect("ASCII");
         let lines: Vec<&str> = output.lines().collect();
         assert_eq!(lines.len(), 4);
-        assert!(
-            lines[1].starts_with("?          long ") && lines[3].starts_with("?          long ")
-        );
-        assert!(lines[2].starts_with("0          passed "));
+        assert!(lines[1].starts_with("?          0          long "));
+        assert!(lines[2].starts_with("0          64         passed "));
+        assert!(lines[3].starts_with("?          64         long "));
     }
 
     #[test]

@@ -131,7 +131,8 @@ mod tests {
         let call = |line: String| crate::call::answer(line.as_bytes()).expect("a line of call");
         for (number, m) in [(0, 20), (1, 8), (511, 3), (512, 1), (70_000, 33)] {
             let payload = "00".repeat(m);
-            let sealed = call(format!("seal {shown} {IOV} 3 0 {number} {payload} {}", m + 6));
+            let sender = format!("{shown} {IOV} 3 0 {number} {}", number + 1);
+            let sealed = call(format!("seal {sender} {payload} {}", m + 6));
             let frame = one(&tables, What::Seal, &key, number, m, &[]);
             assert!(sealed.ends_with(&format!(" {}", crate::lines::hex(&frame))), "{sealed}");
             let header = format!("{:04X}0130 0000", m + 4).replace(' ', "");

@@ -1,5 +1,6 @@
 //! Sealing a frame and opening one.
-//! Follows document 01, "The link" and the orders under "Refusal numbers".
+//! Follows document 01, "The link" and the orders under "Refusal numbers", and document 02, item 4,
+//! for 13.
 
 use crate::bits::{of_number, of_octets, to_octets, xor};
 use crate::keystreams::gea4;
@@ -7,7 +8,7 @@ use crate::lent::short;
 use crate::link::frame::{self, HEADER_OCTETS};
 use crate::link::numbering::{narrow, LAST_NUMBER};
 use crate::link::states::{Link, Receiver, Sender};
-use crate::refusals::{first, END, NONE, OTHER, REPEAT, ROOM, SIZE, STATE};
+use crate::refusals::{first, END, NONE, OTHER, REPEAT, RESERVE, ROOM, SIZE, STATE};
 
 /// What sealing and opening hand out beside the lent octets.
 #[derive(Debug, PartialEq)]
@@ -26,21 +27,25 @@ impl<State> Answer<State> {
 }
 
 pub fn seal(sender: Sender, payload: &[u8], output: &mut [u8]) -> Answer<Sender> {
-    let Sender { link, next } = sender;
+    let link = sender.link;
+    let Some(mut left) = sender.left() else {
+        return Answer::refused(STATE, 0, sender);
+    };
     let length = HEADER_OCTETS + payload.len();
     let refusal = first(&[
-        (STATE, sender.cannot_arise()),
         (SIZE, frame::bad_size(payload.len())),
-        (END, i64::from(next) == LAST_NUMBER + 1),
+        (END, i64::from(sender.next) == LAST_NUMBER + 1),
+        (RESERVE, left.is_empty()),
         (ROOM, short(output, 8 * length as u64)),
     ]);
     if refusal != NONE {
         return Answer::refused(refusal, 0, sender);
     }
-    let ciphered = xored(&link, next, payload);
-    let frame = frame::framed(link.sapi, link.direction, next % 512, &ciphered);
+    let number = narrow(left.pop_first().expect("13 where none is left"));
+    let ciphered = xored(&link, number, payload);
+    let frame = frame::framed(link.sapi, link.direction, number % 512, &ciphered);
     output[..length].copy_from_slice(&frame);
-    Answer { refusal, number: next, length, state: Sender { link, next: next + 1 } }
+    Answer { refusal, number, length, state: Sender { next: number + 1, ..sender } }
 }
 
 pub fn open(receiver: Receiver, frame: &[u8], output: &mut [u8]) -> Answer<Receiver> {
@@ -112,7 +117,7 @@ mod tests {
 
     #[test]
     fn a_sealed_frame_is_its_header_and_the_ciphered_payload() {
-        let sender = Sender { link: LINK, next: 513 };
+        let sender = Sender { link: LINK, next: 513, reserved: 520 };
         let (mut output, mut keystream) = ([0xAA; 12], [0; 4]);
         let answer = seal(sender, &[1, 2, 3, 4], &mut output);
         let state = Sender { next: 514, ..sender };
@@ -127,7 +132,7 @@ mod tests {
 
     #[test]
     fn the_largest_payload_seals_into_1526_octets() {
-        let sender = Sender { link: LINK, next: 0 };
+        let sender = Sender { link: LINK, next: 0, reserved: 1 };
         let answer = |payload: usize| seal(sender, &vec![0; payload], &mut [0; 1_600]);
         assert_eq!((answer(1_520).refusal, answer(1_520).length), (NONE, 1_526));
         assert_eq!((answer(1_521).refusal, answer(0).refusal), (SIZE, SIZE));
@@ -135,8 +140,21 @@ mod tests {
     }
 
     #[test]
+    fn the_last_number_below_the_reservation_is_sealed_and_no_other() {
+        let sealed = |next, reserved| {
+            let answer = seal(Sender { link: LINK, next, reserved }, &[7], &mut [0; 7]);
+            (answer.refusal, answer.number, answer.state.next, answer.state.reserved)
+        };
+        assert_eq!(sealed(0, 0), (RESERVE, 0, 0, 0));
+        assert_eq!(sealed(599, 600), (NONE, 599, 600, 600));
+        assert_eq!(sealed(600, 600), (RESERVE, 0, 600, 600));
+        assert_eq!(sealed(601, 600), (STATE, 0, 601, 600));
+        assert_eq!(sealed(1 << 27, 1 << 27), (END, 0, 1 << 27, 1 << 27));
+    }
+
+    #[test]
     fn a_frame_refused_for_its_room_may_be_presented_again() {
-        let sender = Sender { link: LINK, next: 2 };
+        let sender = Sender { link: LINK, next: 2, reserved: 3 };
         let mut frame = [0; 9];
         seal(sender, &[7, 8, 9], &mut frame);
         let receiver = Receiver { link: LINK, next: 4, marks: 0b1001 };

@@ -1,11 +1,13 @@
 //! The link: numbered, ciphered frames from a sender's end to a receiver's.
-//! Follows document 01, "The link" and "Refusal numbers".
+//! Follows document 01, "The link" and "Refusal numbers", and document 02, items 4 and 5.
 
 pub mod ends;
 pub mod frame;
 pub mod numbering;
+pub mod reserving;
 pub mod services;
 pub mod states;
+pub mod stored;
 
 use crate::bits::{of_number, to_number, xor};
 

@@ -28,6 +28,18 @@ impl History {
         (!cannot_arise(next, marks)).then(|| History { accepted: marked(next, marks) })
     }
 
+    /// The history of these numbers, or nothing where it does not lead to this V: a number is none,
+    /// or V is not one above the highest.
+    pub fn of_numbers(accepted: BTreeSet<i64>, v: i64) -> Option<History> {
+        let numbers = accepted.iter().all(|number| (0..=LAST_NUMBER).contains(number));
+        Some(History { accepted }).filter(|history| numbers && history.next() == v)
+    }
+
+    /// Whether each of the 32 numbers below V was accepted, the lowest of them first.
+    pub fn window(&self) -> impl Iterator<Item = bool> + '_ {
+        below(self.next()).map(|number| self.accepted.contains(&number))
+    }
+
     /// V: one above the highest accepted, or 0 if none was.
     pub fn next(&self) -> i64 {
         self.accepted.last().map_or(0, |highest| highest + 1)
@@ -60,6 +72,11 @@ impl History {
     pub fn accept(&mut self, candidate: i64) {
         self.accepted.insert(candidate);
     }
+}
+
+/// The 32 numbers below V, of which a receiver keeps whether it has accepted them.
+pub fn below(v: i64) -> impl Iterator<Item = i64> {
+    v - 32..v
 }
 
 /// The numbers that have a mark; below 0 there may be some in a state that cannot arise.

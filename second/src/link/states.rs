@@ -1,9 +1,9 @@
 //! The states of a sender and of a receiver, and how an end is opened.
-//! Follows document 01, "The link" and "Refusal numbers", and document 02, items 1 and 5.
+//! Follows document 01, "The link" and "Refusal numbers", and document 02, items 1, 4 and 5.
 
 use crate::lines::hex;
 use crate::link::frame::LAST_DIRECTION;
-use crate::link::numbering::{History, LAST_NUMBER};
+use crate::link::numbering::History;
 use crate::link::services::is_assigned;
 use crate::product::ciphers::prepare_key;
 use crate::refusals::{first, KEY, NONE, RANGE};
@@ -18,10 +18,12 @@ pub struct Link {
     pub direction: u8,
 }
 
+/// It seals only numbers below the reserved one.
 #[derive(Clone, Copy, Debug, PartialEq)]
 pub struct Sender {
     pub link: Link,
     pub next: u32,
+    pub reserved: u32,
 }
 
 #[derive(Clone, Copy, Debug, PartialEq)]
@@ -31,17 +33,21 @@ pub struct Receiver {
     pub marks: u32,
 }
 
-/// A refused opening hands back all zeros with direction 2, which 12 then refuses.
+/// A call that makes a state and is refused hands back all zeros with direction 2, which 12 then
+/// refuses.
 const NO_LINK: Link = Link { key: [0; 16], iov: 0, sapi: 0, direction: 2 };
+
+pub const NO_SENDER: Sender = Sender::new(NO_LINK);
+pub const NO_RECEIVER: Receiver = Receiver::new(NO_LINK);
 
 pub fn open_sender(key: &[u8], iov: u32, sapi: u8, direction: u8) -> (u8, Sender) {
     let (refusal, link) = open_link(key, iov, sapi, direction);
-    (refusal, Sender { link, next: 0 })
+    (refusal, Sender::new(link))
 }
 
 pub fn open_receiver(key: &[u8], iov: u32, sapi: u8, direction: u8) -> (u8, Receiver) {
     let (refusal, link) = open_link(key, iov, sapi, direction);
-    (refusal, Receiver { link, next: 0, marks: 0 })
+    (refusal, Receiver::new(link))
 }
 
 pub fn open_link(key: &[u8], iov: u32, sapi: u8, direction: u8) -> (u8, Link) {
@@ -60,13 +66,16 @@ impl Link {
 }
 
 impl Sender {
-    /// 12; a next number of 2^27 does arise, after the last frame.
-    pub fn cannot_arise(&self) -> bool {
-        i64::from(self.next) > LAST_NUMBER + 1 || self.link.cannot_arise()
+    const fn new(link: Link) -> Sender {
+        Sender { link, next: 0, reserved: 0 }
     }
 }
 
 impl Receiver {
+    const fn new(link: Link) -> Receiver {
+        Receiver { link, next: 0, marks: 0 }
+    }
+
     /// The history behind the state, or nothing when 12 applies.
     pub fn history(&self) -> Option<History> {
         History::of_state(self.next, self.marks).filter(|_| !self.link.cannot_arise())
@@ -83,7 +92,7 @@ impl Display for Link {
 
 impl Display for Sender {
     fn fmt(&self, to: &mut Formatter) -> Result {
-        write!(to, "{} {}", self.link, self.next)
+        write!(to, "{} {} {}", self.link, self.next, self.reserved)
     }
 }
 
@@ -100,8 +109,8 @@ mod tests {
     #[test]
     fn a_bad_key_is_named_before_a_range_and_leaves_a_state_for_12() {
         let (refusal, sender) = open_sender(&[7; 15], 5, 16, 2);
-        assert_eq!((refusal, sender), (KEY, Sender { link: NO_LINK, next: 0 }));
-        assert!(sender.cannot_arise());
+        assert_eq!((refusal, sender), (KEY, NO_SENDER));
+        assert!(sender.left().is_none());
         let (refusal, receiver) = open_receiver(&[7; 16], 5, 11, 2);
         assert_eq!(refusal, RANGE);
         assert_eq!(receiver.to_string(), format!("{} 0 0 2 0 0", "00".repeat(16)));
@@ -112,10 +121,10 @@ mod tests {
     fn a_reserved_service_opens_nothing_and_arises_nowhere() {
         for sapi in [0, 4, 6, 10, 12, 15, 16, 255] {
             let (refusal, sender) = open_sender(&[7; 16], 5, sapi, 0);
-            assert_eq!((refusal, sender), (RANGE, Sender { link: NO_LINK, next: 0 }));
+            assert_eq!((refusal, sender), (RANGE, NO_SENDER));
             let link = Link { key: [7; 16], iov: 5, sapi, direction: 0 };
-            assert!(Sender { link, next: 0 }.cannot_arise());
-            assert!(Receiver { link, next: 0, marks: 0 }.history().is_none());
+            assert!(Sender::new(link).left().is_none());
+            assert!(Receiver::new(link).history().is_none());
         }
     }
 
@@ -124,5 +133,8 @@ mod tests {
         let (refusal, receiver) = open_receiver(&[7; 16], 5, 11, 1);
         assert_eq!(refusal, NONE);
         assert_eq!(receiver.to_string(), format!("{} 5 11 1 0 0", "07".repeat(16)));
+        let (refusal, sender) = open_sender(&[7; 16], 5, 11, 1);
+        assert_eq!(refusal, NONE);
+        assert_eq!(sender.to_string(), format!("{} 5 11 1 0 0", "07".repeat(16)));
     }
 }

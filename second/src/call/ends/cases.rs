@@ -1,13 +1,13 @@
 //! Ends opened, frames sealed and frames opened: sizes, rooms, numbers, services, damage.
 
-use super::{open_line, receiver_at, seal_line, sealed, sender_at, LINK};
+use super::{open_line, ready, receiver_at, seal_line, sealed, sender_at, LINK};
 use crate::call::form::shown;
 use crate::call::headers::payload;
 use crate::call::numbers::{arising, n_of, FULL};
 use crate::cases::{key_of, KEY, SIZES};
 use crate::link::frame::framed;
 use crate::link::services::assigned;
-use crate::link::states::{Link, Receiver, Sender};
+use crate::link::states::{Link, Receiver};
 
 pub fn lines() -> Vec<String> {
     let parts = [
@@ -59,7 +59,7 @@ fn sealed_sizes() -> Vec<String> {
 
 /// Everything that INPUT is made of: the number, the offset, the service, the direction.
 fn sealed_inputs() -> Vec<String> {
-    let line = |link: Link, next: u32| seal_line(Sender { link, next }, &[0; 9], 16);
+    let line = |link: Link, next: u32| seal_line(ready(link, next), &[0; 9], 16);
     let mut lines = Vec::new();
     let numbers = [0, 1, 2, 255, 256, 511, 512, 513, 1_023, 1_024, FULL - 2, FULL - 1];
     for next in numbers.into_iter().chain([FULL, FULL + 1, u32::MAX]) {

@@ -1,7 +1,7 @@
 //! Sealing and opening with every set of causes that can meet, so that the order of the
 //! refusals shows, and with every kind of state that cannot arise.
 
-use super::{open_line, receiver_at, seal_line, sealed, sender_at, LINK};
+use super::{open_line, ready, receiver_at, seal_line, sealed, sender_at, LINK};
 use crate::call::headers::payload;
 use crate::call::numbers::FULL;
 use crate::link::frame::framed;
@@ -11,13 +11,30 @@ pub fn lines() -> Vec<String> {
     [refused_seals(), sender_states(), refused_opens(), receiver_states()].concat()
 }
 
-/// 12, 3, 10 and 4 in every set; a next number above 2^27 cannot meet 10.
+/// A next number and a reservation, and which of 12, 10 and 13 they make: at 2^27 a sender that can
+/// arise has 13 with 10.
+const COUNTS: [(u32, u32, &[u8]); 9] = [
+    (5, 6, &[]),
+    (5, 69, &[]),
+    (5, 5, &[13]),
+    (FULL, FULL, &[10, 13]),
+    (5, 4, &[12, 13]),
+    (5, 70, &[12]),
+    (FULL, FULL + 1, &[12, 10]),
+    (FULL, FULL - 1, &[12, 10, 13]),
+    (FULL + 1, FULL + 1, &[12, 13]),
+];
+
+/// The sizes of payloads, and whether they make 3.
+const PAYLOADS: [(usize, bool); 3] = [(4, false), (0, true), (1_521, true)];
+
+/// 12, 3, 10, 13 and 4 in every set that can meet.
 fn refused_seals() -> Vec<String> {
     let mut lines = Vec::new();
-    for next in [5, FULL, FULL + 1] {
+    for (next, reserved, _) in COUNTS {
         for sapi in [3, 4] {
-            let sender = Sender { link: Link { sapi, ..LINK }, next };
-            for size in [4, 0, 1_521] {
+            let sender = Sender { link: Link { sapi, ..LINK }, next, reserved };
+            for (size, _) in PAYLOADS {
                 let payload = payload(size);
                 lines.extend([size + 6, 3].map(|room| seal_line(sender, &payload, room)));
             }
@@ -93,7 +110,7 @@ fn sender_states() -> Vec<String> {
     let mut lines = Vec::new();
     for link in links() {
         for next in [0, 1, FULL - 1, FULL, FULL + 1, u32::MAX] {
-            lines.push(seal_line(Sender { link, next }, &payload(2), 9));
+            lines.push(seal_line(ready(link, next), &payload(2), 9));
         }
     }
     lines
@@ -131,6 +148,30 @@ fn receiver_states() -> Vec<String> {
 mod tests {
     use super::*;
     use crate::call;
+
+    #[test]
+    fn the_first_cause_of_every_seal_is_named() {
+        let mut lines = refused_seals().into_iter();
+        for (_, _, counts) in COUNTS {
+            for no_service in [false, true] {
+                for (_, bad_size) in PAYLOADS {
+                    for no_room in [false, true] {
+                        let holds = |cause: &u8| match cause {
+                            3 => bad_size,
+                            4 => no_room,
+                            12 => no_service || counts.contains(cause),
+                            _ => counts.contains(cause),
+                        };
+                        let expected = [12, 3, 10, 13, 4].into_iter().find(holds).unwrap_or(0);
+                        let line = lines.next().unwrap();
+                        let answer = call::answer(line.as_bytes()).unwrap();
+                        assert!(answer.starts_with(&format!("{expected} ")), "{line}");
+                    }
+                }
+            }
+        }
+        assert_eq!(lines.next(), None);
+    }
 
     #[test]
     fn the_first_cause_of_every_set_is_named() {

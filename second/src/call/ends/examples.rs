@@ -1,11 +1,11 @@
 //! Document 01's examples of the link, and the recorded traffic of the vector files; beside the
 //! short ones some that are spoiled.
 
-use super::{seal_line, sender_at};
+use super::{ready, seal_line, sender_at};
 use crate::call::headers::payload;
 use crate::cases::{spoiled, KEY};
 use crate::link::frame::HEADER_OCTETS;
-use crate::link::states::{Link, Sender};
+use crate::link::states::Link;
 use crate::random::Random;
 use crate::vectors::{self, Recorded};
 
@@ -31,7 +31,7 @@ fn inputs() -> Vec<String> {
     for (iov, sapi, next, input) in examples {
         lines.extend([0, 1].map(|direction| {
             let link = Link { iov, sapi, direction, ..super::LINK };
-            seal_line(Sender { link, next }, &[0; 16], 22)
+            seal_line(ready(link, next), &[0; 16], 22)
         }));
         lines.extend([0, 1].map(|direction| format!("gea4 {KEY} 0x{input:08X} {direction} 16 16")));
     }

@@ -1,7 +1,7 @@
 //! Document 02, item 11: frames that have different INPUT, and frames that share one. Octets of
 //! zero are ciphered, so that what stands in an answer is the keystream itself.
 
-use super::{seal_line, sender_at, LINK};
+use super::{ready, reserve_line, seal_line, sender_at, LINK};
 use crate::lines::hex;
 use crate::link::services::assigned;
 use crate::link::states::{Link, Sender};
@@ -23,7 +23,7 @@ fn of_each_service() -> Vec<String> {
         assigned().into_iter().flat_map(move |sapi| {
             let link = Link { iov, sapi, ..LINK };
             let numbers = [0, NUMBERS / 2, NUMBERS - 1];
-            numbers.map(|next| seal_line(Sender { link, next }, &ZEROS, 22))
+            numbers.map(|next| seal_line(ready(link, next), &ZEROS, 22))
         })
     };
     [0, 0x0123_4567, 0x7FFF_FFFF, 0xFFFF_FFFF].into_iter().flat_map(of_offset).collect()
@@ -43,7 +43,7 @@ fn at_the_end() -> Vec<String> {
         let iov = high * NUMBERS + high;
         [pair(iov, 2, 3), pair(iov, 3, 2)].concat()
     };
-    let at_end = Sender { link: Link { sapi: 1, ..LINK }, next: NUMBERS };
+    let at_end = ready(Link { sapi: 1, ..LINK }, NUMBERS);
     let mut lines = vec![seal_line(at_end, &ZEROS, 22)];
     lines.extend(pair(0x0123_4567, 1, 2));
     lines.extend((0..32).flat_map(both_ways));
@@ -52,14 +52,17 @@ fn at_the_end() -> Vec<String> {
 
 /// Number 1 under offset 0, and number 0 under offset 1.
 fn two_offsets() -> Vec<String> {
-    let line = |(iov, next)| seal_line(Sender { link: Link { iov, ..LINK }, next }, &ZEROS, 22);
+    let line = |(iov, next)| seal_line(ready(Link { iov, ..LINK }, next), &ZEROS, 22);
     [(0, 1), (1, 0)].map(line).to_vec()
 }
 
-/// A sender is opened and seals a text, and is opened again and seals the other.
+/// A sender is opened, told a reservation and seals a text, and is opened again and seals the other.
 fn opened_twice() -> Vec<String> {
-    let opened_for =
-        |text: &[u8; 15]| [format!("open_sender {LINK}"), seal_line(sender_at(0), text, 21)];
+    let new = Sender { reserved: 0, ..sender_at(0) };
+    let opened_for = |text: &[u8; 15]| {
+        let told = Sender { reserved: 64, ..new };
+        [format!("open_sender {LINK}"), reserve_line(new, 64), seal_line(told, text, 21)]
+    };
     TEXTS.into_iter().flat_map(opened_for).collect()
 }
 
@@ -106,13 +109,13 @@ mod tests {
     #[test]
     fn a_sender_opened_twice_tells_the_xor_of_its_texts() {
         let answers = answers(opened_twice());
-        for opened in [&answers[0], &answers[2]] {
-            assert_eq!(*opened, format!("0 {}", sender_at(0)));
+        for opened in [&answers[0], &answers[3]] {
+            assert_eq!(*opened, format!("0 {LINK} 0 0"));
         }
         let xor = |one: &str, other: &str| {
             call::answer(format!("xor {one} {other} 15").as_bytes()).unwrap()
         };
-        let [one, other] = [1, 3].map(|place| ciphered(&answers[place]));
+        let [one, other] = [2, 5].map(|place| ciphered(&answers[place]));
         let [first, second] = TEXTS.map(|text| hex(text));
         assert_eq!(xor(one, other), xor(&first, &second));
     }

@@ -6,13 +6,18 @@ mod causes;
 mod examples;
 mod inputs;
 mod keys;
+pub mod reservations;
 mod runs;
+#[cfg(test)]
+pub mod seen;
 mod services;
 
 use super::form::{lent, number, octets_field, shown};
+use super::numbers::FULL;
 use super::Subject;
 use crate::link::ends::{open, seal, Answer};
 use crate::link::frame::HEADER_OCTETS;
+use crate::link::reserving::reserve;
 use crate::link::states::{open_receiver, open_sender, Link, Receiver, Sender};
 use std::fmt::Display;
 
@@ -20,7 +25,10 @@ pub const SUBJECT: Subject = Subject {
     forms: &[
         "open_sender KEY IOV:u32 SAPI:u8 DIRECTION:u8 -> 0 1 2",
         "open_receiver KEY IOV:u32 SAPI:u8 DIRECTION:u8 -> 0 1 2",
-        "seal SENDER PAYLOAD ROOM:size -> 0 3 4 10 12",
+        "sender_can_arise SENDER",
+        "receiver_can_arise RECEIVER",
+        "reserve SENDER RESERVATION:u32 -> 0 2 12",
+        "seal SENDER PAYLOAD ROOM:size -> 0 3 4 10 12 13",
         "open RECEIVER FRAME ROOM:size -> 0 4 5 6 7 8 9 10 11 12",
     ],
     answer,
@@ -32,6 +40,7 @@ pub const SUBJECT: Subject = Subject {
             keys::lines(),
             cases::lines(),
             causes::lines(),
+            reservations::lines(),
             runs::lines(),
         ];
         parts.concat()
@@ -41,12 +50,12 @@ pub const SUBJECT: Subject = Subject {
 /// The fields of the states in a form.
 pub const STATES: [(&str, &str); 3] = [
     ("LINK", "KEY:key IOV:u32 SAPI:u8 DIRECTION:u8"),
-    ("SENDER", "KEY:key IOV:u32 SAPI:u8 DIRECTION:u8 NEXT:u32"),
+    ("SENDER", "KEY:key IOV:u32 SAPI:u8 DIRECTION:u8 NEXT:u32 RESERVED:u32"),
     ("RECEIVER", "KEY:key IOV:u32 SAPI:u8 DIRECTION:u8 NEXT:u32 MARKS:u32"),
 ];
 
-/// An end that is opened answers REFUSAL and its state; sealing and opening answer REFUSAL NUMBER
-/// LENGTH, the state afterwards and OUTPUT.
+/// An end that is opened or told a reservation answers REFUSAL and its state; sealing and opening
+/// answer REFUSAL NUMBER LENGTH, the state afterwards and OUTPUT.
 fn answer(fields: &[&[u8]]) -> Option<String> {
     match *fields {
         [b"open_sender", key, iov, sapi, direction] => {
@@ -54,6 +63,16 @@ fn answer(fields: &[&[u8]]) -> Option<String> {
         }
         [b"open_receiver", key, iov, sapi, direction] => {
             opened(open_receiver, key, iov, sapi, direction)
+        }
+        [b"sender_can_arise", ref state @ ..] => {
+            Some(u8::from(sender(state)?.left().is_some()).to_string())
+        }
+        [b"receiver_can_arise", ref state @ ..] => {
+            Some(u8::from(receiver(state)?.history().is_some()).to_string())
+        }
+        [b"reserve", ref state @ .., reservation] => {
+            let (refusal, sender) = reserve(sender(state)?, number(reservation)?);
+            Some(format!("{refusal} {sender}"))
         }
         [b"seal", ref state @ .., payload, room] => {
             let (sender, payload, mut output) =
@@ -89,12 +108,13 @@ pub fn link(key: &[u8], iov: &[u8], sapi: &[u8], direction: &[u8]) -> Option<Lin
     Some(Link { key, iov: number(iov)?, sapi: number(sapi)?, direction: number(direction)? })
 }
 
-fn sender(fields: &[&[u8]]) -> Option<Sender> {
-    let &[key, iov, sapi, direction, next] = fields else { return None };
-    Some(Sender { link: link(key, iov, sapi, direction)?, next: number(next)? })
+pub fn sender(fields: &[&[u8]]) -> Option<Sender> {
+    let &[key, iov, sapi, direction, next, reserved] = fields else { return None };
+    let link = link(key, iov, sapi, direction)?;
+    Some(Sender { link, next: number(next)?, reserved: number(reserved)? })
 }
 
-fn receiver(fields: &[&[u8]]) -> Option<Receiver> {
+pub fn receiver(fields: &[&[u8]]) -> Option<Receiver> {
     let &[key, iov, sapi, direction, next, marks] = fields else { return None };
     let link = link(key, iov, sapi, direction)?;
     Some(Receiver { link, next: number(next)?, marks: number(marks)? })
@@ -106,18 +126,26 @@ fn told<State: Display>(answer: &Answer<State>, output: &[u8]) -> String {
 }
 
 /// The link of cases in which any link would do.
-const LINK: Link = Link {
+pub const LINK: Link = Link {
     key: [0, 1, 2, 3, 4, 5, 6, 7, 8, 9, 10, 11, 12, 13, 14, 15],
     iov: 0x1234_5678,
     sapi: 3,
     direction: 1,
 };
 
-fn sender_at(next: u32) -> Sender {
-    Sender { link: LINK, next }
+/// A sender that may seal its next number, and as many after it as these say; where there is no such
+/// number, one that stands at its reservation.
+fn ready(link: Link, next: u32) -> Sender {
+    let left = next / 7 % 64;
+    let reserved = if next < FULL { (next + 1 + left).min(FULL) } else { next };
+    Sender { link, next, reserved }
 }
 
-fn receiver_at(next: u32, marks: u32) -> Receiver {
+pub fn sender_at(next: u32) -> Sender {
+    ready(LINK, next)
+}
+
+pub fn receiver_at(next: u32, marks: u32) -> Receiver {
     Receiver { link: LINK, next, marks }
 }
 
@@ -129,12 +157,16 @@ fn sealed(sender: Sender, payload: &[u8]) -> Vec<u8> {
     frame
 }
 
-fn seal_line(sender: Sender, payload: &[u8], room: usize) -> String {
+pub fn seal_line(sender: Sender, payload: &[u8], room: usize) -> String {
     format!("seal {sender} {} {room}", shown(payload))
 }
 
-fn open_line(receiver: Receiver, frame: &[u8], room: usize) -> String {
+pub fn open_line(receiver: Receiver, frame: &[u8], room: usize) -> String {
     format!("open {receiver} {} {room}", shown(frame))
+}
+
+pub fn reserve_line(sender: Sender, reservation: u32) -> String {
+    format!("reserve {sender} {reservation}")
 }
 
 #[cfg(test)]
@@ -150,17 +182,22 @@ mod tests {
 
     #[test]
     fn a_refused_call_shows_the_state_given_and_the_lent_octets() {
-        assert_eq!(answer_to("seal K 1 2 0 134217728 AB 2"), "10 0 0 K 1 2 0 134217728 AAAA");
+        let end = "K 1 2 0 134217728 134217728";
+        assert_eq!(answer_to(&format!("seal {end} AB 2")), format!("10 0 0 {end} AAAA"));
+        assert_eq!(answer_to("seal K 1 2 0 7 7 AB 2"), "13 0 0 K 1 2 0 7 7 AAAA");
+        assert_eq!(answer_to("reserve K 1 2 0 7 9 8"), "2 K 1 2 0 7 9");
+        assert_eq!(answer_to("reserve K 1 2 0 9 7 8"), "12 K 1 2 0 9 7");
         assert_eq!(answer_to("open K 1 2 0 5 0x3 - 1"), "5 0 0 K 1 2 0 5 3 AA");
         let nothing = "00".repeat(16);
-        assert_eq!(answer_to("open_sender 00 1 2 0"), format!("1 {nothing} 0 0 2 0"));
+        assert_eq!(answer_to("open_sender 00 1 2 0"), format!("1 {nothing} 0 0 2 0 0"));
         assert_eq!(answer_to("open_receiver K 1 16 0"), format!("2 {nothing} 0 0 2 0 0"));
     }
 
     #[test]
     fn what_was_sealed_opens() {
-        let sealed = answer_to("seal K 0 3 1 26 48656C6C6F 12");
-        let frame = sealed.strip_prefix("0 26 11 K 0 3 1 27 ").expect("the frame of number 26");
+        assert_eq!(answer_to("reserve K 0 3 1 26 26 90"), "0 K 0 3 1 26 90");
+        let sealed = answer_to("seal K 0 3 1 26 90 48656C6C6F 12");
+        let frame = sealed.strip_prefix("0 26 11 K 0 3 1 27 90 ").expect("the frame of number 26");
         let frame = frame.strip_suffix("AA").expect("an octet to spare");
         assert_eq!(&frame[..12], "00090131001A");
         assert_eq!(answer_to(&format!("look {frame}")), format!("0 {}", &frame[12..]));
@@ -175,7 +212,7 @@ mod tests {
     #[test]
     fn the_key_of_a_state_has_16_octets() {
         for key in ["-", "00", &KEY[2..], &format!("{KEY}10")] {
-            assert_eq!(answer_to(&format!("seal {key} 0 3 1 26 AB 7")), "?");
+            assert_eq!(answer_to(&format!("seal {key} 0 3 1 26 27 AB 7")), "?");
             assert_eq!(answer_to(&format!("open {key} 0 3 1 0 0 AB 7")), "?");
             assert_ne!(answer_to(&format!("open_sender {key} 0 3 1")), "?");
         }

@@ -1,9 +1,10 @@
 //! Random runs of a sender and a receiver over a bad link: frames are lost, repeated and
 //! reordered. A line carries the state that the last call of its end returned.
 
-use super::{open_line, seal_line};
+use super::{open_line, reserve_line, seal_line};
 use crate::call::numbers::{arising, FULL};
 use crate::link::ends::{open, seal, Answer};
+use crate::link::reserving::reserve;
 use crate::link::services::assigned;
 use crate::link::states::{Link, Receiver, Sender};
 use crate::random::Random;
@@ -57,12 +58,24 @@ impl Run {
         let link = Link { key, iov: random.number() as u32, sapi, direction };
         let next = random.one_of(&[0, 0, 0, 0, 20, 500, 77_777, FULL - 300, FULL - 5]);
         let marks = arising(next, random.number() as u32);
+        let sender = Sender { link, next, reserved: next };
         let receiver = Receiver { link, next, marks };
-        Run { sender: Sender { link, next }, receiver, air: Vec::new(), lines: Vec::new() }
+        Run { sender, receiver, air: Vec::new(), lines: Vec::new() }
     }
 
-    /// The sender seals a frame; at the end of its numbers it is refused.
+    /// The sender is told a reservation, as far ahead as it may be or less.
+    fn tell(&mut self, random: &mut Random) {
+        let reservation = self.sender.next + random.one_of(&[1, 2, 8, 63, 64]);
+        self.lines.push(reserve_line(self.sender, reservation));
+        self.sender = reserve(self.sender, reservation).1;
+    }
+
+    /// The sender seals a frame; at the end of its numbers it is refused, and where it waits for a
+    /// reservation.
     fn send(&mut self, random: &mut Random) {
+        if self.sender.next == self.sender.reserved && random.below(4) != 0 {
+            self.tell(random);
+        }
         let size = 1 + random.one_of(&[0, 3, 7, 8, 20]) + random.below(4);
         let payload: Vec<u8> = (0..size).map(|_| random.octet()).collect();
         let room = size + random.one_of(&[5, 6, 6, 6, 6, 7, 10]);
@@ -80,6 +93,7 @@ impl Run {
     fn lose(&mut self, random: &mut Random) {
         let lost = random.one_of(&[1, 1, 1, 2, 2, 3, 5, 30, 31, 32, 33, 100, 450, 479]);
         self.sender.next = (self.sender.next + lost).min(FULL);
+        self.sender.reserved = self.sender.reserved.max(self.sender.next);
     }
 
     /// A frame of the air arrives, the first time or again.
@@ -116,70 +130,20 @@ impl Run {
 
 #[cfg(test)]
 mod tests {
+    use super::super::seen::Seen;
     use super::*;
     use crate::call;
-    use std::collections::{BTreeMap, BTreeSet};
-
-    /// What demand 3 is about, read off the lines of a run and their answers.
-    #[derive(Default)]
-    struct Seen {
-        /// Number and payload of each frame that was sealed.
-        sealed: BTreeMap<String, (i64, String)>,
-        arrived: BTreeSet<i64>,
-        late: usize,
-        repeated: usize,
-    }
 
     /// Follows a run as long as each frame arrives within the receiver's window.
     fn follow(run: &[String]) -> Seen {
         let mut seen = Seen::default();
         for line in run {
             let answer = call::answer(line.as_bytes()).expect("a line of a run is good");
-            let (line, answer): (Vec<&str>, Vec<&str>) =
-                (line.split(' ').collect(), answer.split(' ').collect());
-            match (line[0], answer[0]) {
-                ("seal", "0") => {
-                    let digits = 2 * answer[2].parse::<usize>().unwrap();
-                    let frame = answer[8][..digits].to_string();
-                    seen.sealed.insert(frame, (answer[1].parse().unwrap(), line[6].to_string()));
-                }
-                ("seal", refusal) => assert!(["4", "10"].contains(&refusal)),
-                _ if !seen.arrives(&line, &answer) => return seen,
-                _ => {}
+            if !seen.takes(line, &answer) {
+                break;
             }
         }
         seen
-    }
-
-    impl Seen {
-        /// Whether what is presented is refused or arrives within the window; if it
-        /// arrives, its answer is the one of demand 3.
-        fn arrives(&mut self, line: &[&str], answer: &[&str]) -> bool {
-            let next: i64 = line[5].parse().unwrap();
-            let room: usize = line[8].parse().unwrap();
-            let sealed = self.sealed.get(line[7]);
-            let arrival = sealed.filter(|(_, payload)| room >= payload.len() / 2);
-            let Some((number, payload)) = arrival else {
-                assert_ne!(answer[0], "0");
-                return true;
-            };
-            if !(next - 32..=next + 479).contains(number) {
-                return false;
-            }
-            assert_eq!(answer[1], number.to_string());
-            if self.arrived.insert(*number) {
-                assert_eq!(answer[0], "0");
-                assert_eq!(answer[2], (payload.len() / 2).to_string());
-                assert!(answer[9].starts_with(payload));
-                self.late += usize::from(*number < next);
-            } else {
-                assert_eq!(answer[0], "11");
-                self.repeated += 1;
-            }
-            let highest = self.arrived.last().expect("one has arrived");
-            assert_eq!(answer[7], (highest + 1).to_string());
-            true
-        }
     }
 
     #[test]

@@ -1,11 +1,11 @@
 //! Every service number that an octet can hold, with both directions and 2: either end is opened
 //! with it, and a payload sealed and a frame opened in a state that holds it.
 
-use super::{open_line, seal_line, sealed, LINK};
+use super::{open_line, ready, seal_line, sealed, LINK};
 use crate::call::headers::payload;
 use crate::lines::hex;
 use crate::link::frame::framed;
-use crate::link::states::{Link, Receiver, Sender};
+use crate::link::states::{Link, Receiver};
 
 pub fn lines() -> Vec<String> {
     (0..=u8::MAX)
@@ -19,7 +19,7 @@ pub fn lines() -> Vec<String> {
 fn through(link: Link) -> [String; 4] {
     let Link { key, iov, sapi, direction } = link;
     let open_end = |end: &str| format!("open_{end} {} {iov} {sapi} {direction}", hex(&key));
-    let (sender, receiver) = (Sender { link, next: 540 }, Receiver { link, next: 540, marks: 1 });
+    let (sender, receiver) = (ready(link, 540), Receiver { link, next: 540, marks: 1 });
     let frame = if link.cannot_arise() {
         framed(sapi % 16, direction % 2, 540 % 512, &payload(4))
     } else {
