@@ -1,7 +1,7 @@
 #!/usr/bin/env bash
 # Fails when an example on a page is not what the second program, whose path is given, answers. An example is a line `$ COMMAND | ./run NAME` in a fenced
-# block, with the lines after it, up to the next such line or the block's end, as its output; or what a script of the demonstration prints, which begins
-# with the heading of `demo`. COMMAND may have programs of its own, each as `./run NAME`.
+# block, with the lines after it, up to the next such line or the block's end, as its output; or what scripts of the demonstration print, each of which
+# begins with the heading of `demo`. COMMAND may have programs of its own, each as `./run NAME`.
 set -euo pipefail
 second=$1
 top=$(cd "$(dirname "$0")/.." && pwd -P)
@@ -23,9 +23,9 @@ for page in README.md docs/*.md; do
     done < <(sed -nE 's/^\$ ((echo|printf) .* \| \.\/run [a-z]+)$/\1/p' "$page")
 done
 
-for pair in 'README.md demo/rollover.txt' 'docs/BENCH.md demo/refusals.txt'; do
-    read -r page script <<<"$pair"
-    compare "$page" "$script" "$(sed -n '/^phone  /,/^```$/p' "$page" | sed '$d')" "$("$second" demo <"$script")"
+for shown in 'README.md demo/rollover.txt' 'docs/BENCH.md demo/plug.txt demo/refusals.txt'; do
+    read -r page scripts <<<"$shown"
+    compare "$page" "$scripts" "$(sed -n '/^phone  /,/^```$/p' "$page" | grep -v '^```$')" "$(for script in $scripts; do "$second" demo <"$script"; done)"
 done
 
 [ "$tried" -gt 2 ] || { echo 'no example was found on the pages' >&2; exit 1; }
