@@ -3,6 +3,7 @@ ghost use Rattle.io.specs.Counts.{Counts};
 use libc::STDOUT_FILENO;
 use receiver::Opened;
 use receiver::Receiver;
+use sender::OpenedSender;
 use sender::Sealed;
 use sender::Sender;
 
@@ -30,14 +31,24 @@ fn highest(next: u32) -> u32 {
     next + sender::AHEAD
 }
 
-// Stores a higher reservation, and only then tells it to the phone. A buffer stands for the disk; your program writes the form to one in between.
-fn reserve(phone: Sender, disk: &mut [u8]) -> Sender {
+// The phone at a start: from the form that was stored last, or opened where none ever was.
+fn start(written: bool, disk: &[u8]) -> OpenedSender {
+    if written {
+        return stored::restore_sender(disk);
+    }
+    sender::open_sender(&KEY, IOV, SAPI, DIRECTION)
+}
+
+// Stores a higher reservation, and only then tells it to the phone. A buffer stands for the disk, which takes the form whole or not at all.
+fn reserve(phone: Sender, disk: &mut [u8; 29]) -> Sender {
     let reserved = highest(phone.next);
-    let refusal = stored::store_sender(phone, reserved, disk);
+    let mut form = [0u8; 29];
+    let refusal = stored::store_sender(phone, reserved, &mut form);
     if refusal != 0 {
         tell(b"store: refused ", refusal as u64, b"\n");
         return phone;
     }
+    *disk = form;
     tell(b"store: numbers below ", reserved as u64, b"\n");
     let told = sender::reserve(phone, reserved);
     told.sender
@@ -51,7 +62,7 @@ fn seal(phone: Sender, text: &[u8], frame: &mut [u8]) -> Sealed
 }
 
 // Seals a text. Where 13 says that the reservation is used up, stores and tells a higher one, and seals then.
-fn send(phone: Sender, text: &[u8], frame: &mut [u8], disk: &mut [u8]) -> Sealed
+fn send(phone: Sender, text: &[u8], frame: &mut [u8], disk: &mut [u8; 29]) -> Sealed
     ensures { λ r. ⌜ Counts (r .size) (now (frame .exit)) ⌝ }
 {
     let sealed = seal(phone, text, frame);
@@ -102,8 +113,8 @@ fn receive(cell: Receiver, frame: &[u8]) -> Receiver {
 }
 
 // After a cut: the phone is made from what the disk has, and goes on at its reservation.
-fn restart(disk: &mut [u8], cell: Receiver) {
-    let restored = stored::restore_sender(disk);
+fn restart(disk: &mut [u8; 29], cell: Receiver) {
+    let restored = start(true, disk);
     if restored.refusal != 0 {
         tell(b"restore_sender: refused ", restored.refusal as u64, b"\n");
         return;
@@ -119,7 +130,8 @@ fn restart(disk: &mut [u8], cell: Receiver) {
 
 // Each call is given the state that the call before it handed back, whether that was refused or not.
 fn main() {
-    let phone = sender::open_sender(&KEY, IOV, SAPI, DIRECTION);
+    let mut disk = [0u8; 29];
+    let phone = start(false, &disk);
     if phone.refusal != 0 {
         tell(b"open_sender: refused ", phone.refusal as u64, b"\n");
         return;
@@ -130,7 +142,6 @@ fn main() {
         return;
     }
 
-    let mut disk = [0u8; 29];
     let mut frame = [0u8; 1526];
     let nothing = send(phone.sender, b"", &mut frame, &mut disk);
     tell_sealed(nothing);
