@@ -1,6 +1,6 @@
 -- The ends that promise 3 speaks of: a sender's calls, one after the other, and a receiver's, each given the state that the last one returned, or one that
--- was restored. A call is whatever its contract allows. What promise 3 needs of a frame format and of the two ends is said as records; the bench frame and its ends are their
--- first use. Assumes nothing.
+-- was restored. A call is whatever its contract allows. What promise 3 needs of a frame format and of the two ends is said as records; the bench frame and
+-- its ends are their first use. Assumes nothing.
 use Prim.Native.Nat.{ℕ, _^_, _≤_, _<_}
 use mathlib.Core.Path.{_≡_}
 use mathlib.Core.Bool.{cond}

@@ -50,8 +50,8 @@ pub record ThreeCuts (setting : Setting) : Type 0 where
   pub in-window : AllInWindow width events
   pub arrived : arrivals events ≡ 0 ∷ 2 ∷ 128 ∷ 130 ∷ []
 
--- a host that tells before it stores: its last form has the reservation 1, and it told its sender 2 and sealed number 1. After the cut it stores and tells 2, as
--- it should, and seals number 1 again, with another payload, and so under one INPUT
+-- a host that tells before it stores: its last form has the reservation 1, and it told its sender 2 and sealed number 1. After the cut it stores and tells
+-- 2, as it should, and seals number 1 again, with another payload, and so under one INPUT
 pub record TellsFirst (setting : Setting) : Type 0 where
   pub host : Host
   pub last : Host

@@ -22,8 +22,8 @@ unfoldable pub quads : List ℕ → List ℕ
 quads [] = []
 quads (word ∷ rest) = quad word ++ quads rest
 
--- the form with a version, a link and words: two octets for the length of what follows, one for the version; 16 for the prepared key, four for IOV, one for SAPI
--- and one for the direction; and four for each word. Without words 23 octets follow the length
+-- the form with a version, a link and words: two octets for the length of what follows, one for the version; 16 for the prepared key, four for IOV, one for
+-- SAPI and one for the direction; and four for each word. Without words 23 octets follow the length
 unfoldable pub form : ℕ → Link → List ℕ → List ℕ
 form version link words =
     pair (23 + 4 * length words)
