@@ -9,15 +9,18 @@ import sys
 
 TOKEN = re.compile(r"[^\s(){}.;,@\"«»:`#|/\[\]]+(?:-[^\s(){}.;,@\"«»:`#|/\[\]]+)*")
 HEAD = re.compile(r"^((?:(?:pub|abbrev|unfoldable|data|record|ruleset) +)*)([^\s(){}.;,@\":]+)\s*(.*)$")
-FIELD = re.compile(r"^  +(?:pub +)?([^\s(){}.;,@\":]+) : ")
+FIELD = re.compile(r"^  +((?:(?:pub|abbrev|unfoldable) +)*)([^\s(){}.;,@\":]+) : ")
 # words of the library that a lemma may join to a name by a dash
-# lemmas that have the word of a definition already, each in the files that name it
+# names that would fall together with another in the files that name them
 HERE = {
     "crates/aes/proofs/Expansion.antt": {"next_word": "next_word_lem"},
     "crates/challenge/proofs/ByForm.antt": {"given_by": "given_by_lem"},
     "crates/challenge/proofs/Known.antt": {"given_by": "given_by_lem"},
     "crates/challenge/proofs/Laws.antt": {"too_long": "too_long_lem"},
     "crates/keystreams/proofs/Laws.antt": {"is_key": "key_is"},
+    "crates/promises/proofs/HostExamples.antt": {"seal-call": "sealing_call"},
+    "crates/promises/proofs/NoInputTwice.antt": {"link-of": "link_at"},
+    "crates/promises/proofs/SealingAgain.antt": {"seal-call": "sealing_call"},
     "crates/stream/proofs/Answers.antt": {"too_long": "too_long_lem"},
 }
 LIBRARY = set("length get_or take drop set replicate map append cond bit_xor bit_and bit_or".split())
@@ -48,7 +51,8 @@ def declared():
             else:
                 found = FIELD.match(line)
                 if found:
-                    names[found.group(1)].add("field")
+                    words, name = found.groups()
+                    names[name].add("definition" if "abbrev" in words or "unfoldable" in words else "field")
     return names
 
 
@@ -63,7 +67,7 @@ def spelled(name, functions):
     parts = [part if part[:1].isupper() and len(part) > 1 and part[1].islower() and i == 0 else snake(part) for i, part in enumerate(parts)]
     out = parts[0]
     for before, after in zip(parts, parts[1:]):
-        out += ("-" if before in LIBRARY and before == out and after in functions else "_") + after
+        out += ("-" if before in LIBRARY and before == out and (after in functions or after.split("_")[0] in functions) else "_") + after
     return out
 
 

@@ -109,10 +109,10 @@ module _ (made : Bool) {key operator rand sqn amf : List ℕ} (key_is : Digits 1
   abbrev texts : List (List ℕ)
   texts = word_for made ∷ operator ∷ rand ∷ sqn ∷ amf ∷ []
 
-  abbrev pub sixFields : List ℕ
-  sixFields = spaced key texts
+  abbrev pub six_fields : List ℕ
+  six_fields = spaced key texts
 
-  fields_are : fields_of sixFields ≡ key ∷ texts
+  fields_are : fields_of six_fields ≡ key ∷ texts
   unfolding all_spaceless
   fields_are =
       fields_spaced key texts (digits_spaceless key key_is.digits)
@@ -124,32 +124,32 @@ module _ (made : Bool) {key operator rand sqn amf : List ℕ} (key_is : Digits 1
         digits_spaceless amf amf-is.digits,
       ))
 
-  field_is : (k : ℕ) → field_of k sixFields ≡ get_or (key ∷ texts) k []
+  field_is : (k : ℕ) → field_of k six_fields ≡ get_or (key ∷ texts) k []
   unfolding field_of
   field_is k = ap (λ (l : List (List ℕ)). get_or l k []) fields_are
 
-  short : length sixFields ≤ 160
+  short : length six_fields ≤ 160
   unfolding spaced
   short =
       simp length-append
       (omega (arith, (word_right made).3, key_is.size, operator-is.size, rand-is.size, sqn-is.size, amf-is.size))
 
-  of_the_form : is_challenge sixFields ≡ true
+  of_the_form : is_challenge six_fields ≡ true
   of_the_form =
-      sym (form_ends sixFields short
+      sym (form_ends six_fields short
       (ap is_value (field_is 0) ∙ value_is key_is (omega arith))
       (ap is_word (field_is 1) ∙ (word_right made).2)
       (ap is_value (field_is 2) ∙ value_is operator-is (omega arith))
       (ap is_value (field_is 3) ∙ value_is rand-is (omega arith)))
-      ∙ ends_six sixFields (ap length fields_are)
+      ∙ ends_six six_fields (ap length fields_are)
       ∙ rw (ap is_value (field_is 4) ∙ value_is sqn-is (omega arith), ap is_value (field_is 5) ∙ value_is amf-is (omega arith))
 
   abbrev values : Given
   values = record { made = made; numbered = true; key = hex_octets key; operator = hex_octets operator; rand = hex_octets rand; sqn = hex_octets sqn; amf = hex_octets amf }
 
-  given_is : values ≡ given_by sixFields
+  given_is : values ≡ given_by six_fields
   given_is =
-      given_by_lem sixFields {count = 6}
+      given_by_lem six_fields {count = 6}
       (sym (ap is_op (field_is 1) ∙ (word_right made).1))
       (sym (ap length fields_are))
       (sym (ap octets_of (field_is 0) ∙ written key_is (omega arith)))
@@ -169,6 +169,6 @@ module _ (made : Bool) {key operator rand sqn amf : List ℕ} (key_is : Digits 1
   -- six fields: every value, with OPc made from OP or as given
   pub six-answered :
       let opc = cond made (opc_of (hex_octets key) (hex_octets operator)) (hex_octets operator) in
-      ended (answer_text sixFields) ≡ ended (all_results (hex_octets key) opc (hex_octets rand) ++ all_codes (hex_octets key) opc (hex_octets rand) (hex_octets sqn) (hex_octets amf))
+      ended (answer_text six_fields) ≡ ended (all_results (hex_octets key) opc (hex_octets rand) ++ all_codes (hex_octets key) opc (hex_octets rand) (hex_octets sqn) (hex_octets amf))
   unfolding opc_for
-  six-answered = ap ended (answer_good sixFields of_the_form ∙ ap given_text (sym given_is) ∙ text_done values not_refused ∙ values_with values refl)
+  six-answered = ap ended (answer_good six_fields of_the_form ∙ ap given_text (sym given_is) ∙ text_done values not_refused ∙ values_with values refl)

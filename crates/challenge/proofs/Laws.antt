@@ -72,8 +72,8 @@ module _ (given : Given) where
       length_codes _ _ (length_f1 given.key (opc_for given) given.rand given.sqn given.amf)
       (length_f1_star given.key (opc_for given) given.rand given.sqn given.amf)
 
-  length_values : first (given_order given) ≡ 0 → length (values_text given) ≤ 191
-  length_values none =
+  length-values : first (given_order given) ≡ 0 → length (values_text given) ≤ 191
+  length-values none =
       by-test given.numbered _
       (λ with. rw (values_with with, length-append) (omega (arith, length-all_results given.key (opc_for given) given.rand (opc_size none), length_both)))
       (λ without. rw (values_without without) (omega (arith, length-all_results given.key (opc_for given) given.rand (opc_size none))))
@@ -81,7 +81,7 @@ module _ (given : Given) where
   length-given_text : length (given_text given) ≤ 191
   length-given_text =
       by-test (eqb (first (given_order given)) 0) _
-      (λ none. rw (text_done (eqb-true (first (given_order given)) 0 none)) (length_values (eqb-true (first (given_order given)) 0 none)))
+      (λ none. rw (text_done (eqb-true (first (given_order given)) 0 none)) (length-values (eqb-true (first (given_order given)) 0 none)))
       (λ some. rw (text_refused (eqb-false (first (given_order given)) 0 some)) (omega (arith, length-decimal_text (first (given_order given)))))
 
 -- ---- the answer to a line

@@ -6,7 +6,7 @@ mod requests;
 mod texts;
 
 ghost use Rattle.std.specs.Prelude.{true, ◌≡◌, ◌≤◌, length};
-ghost use Rattle.lines.specs.Hearing.{heardAfter, standing};
+ghost use Rattle.lines.specs.Hearing.{heard_after, standing};
 ghost use Rattle.challenge.specs.Answer.{largest_answer};
 ghost use Rattle.challenge.specs.Challenge.{challenge_rules};
 
@@ -23,7 +23,7 @@ struct Moved {
 // Hears a piece of the input, octet by octet, and writes each answer.
 fn hear_piece(heard: Heard, piece: &[u8], output: &mut [u8]) -> Moved
     requires { largest_answer ≤ length output.old }
-    ensures { result.on ≡ true → standing result.heard ≡ heardAfter challenge_rules (standing heard) piece.now }
+    ensures { result.on ≡ true → standing result.heard ≡ heard_after challenge_rules (standing heard) piece.now }
 {
     let mut so_far = heard;
     let mut i = 0;

@@ -6,7 +6,7 @@ mod play;
 mod plugs;
 
 ghost use Rattle.std.specs.Prelude.{true, ◌≡◌, ◌≤◌, length};
-ghost use Rattle.lines.specs.Hearing.{heardAfter};
+ghost use Rattle.lines.specs.Hearing.{heard_after};
 ghost use Rattle.demo.specs.Play.{room, demo_rules, standing};
 
 use libc::{STDIN_FILENO, STDOUT_FILENO};
@@ -22,7 +22,7 @@ struct Moved {
 // Hears a piece of the input, octet by octet, and writes each answer.
 fn hear_piece(mut play: Play, piece: &[u8], output: &mut [u8]) -> Moved
     requires { room ≤ length output.old }
-    ensures { result.on ≡ true → standing result.play ≡ heardAfter demo_rules (standing play) piece.now }
+    ensures { result.on ≡ true → standing result.play ≡ heard_after demo_rules (standing play) piece.now }
 {
     let mut i = 0;
     while i < piece.len() {

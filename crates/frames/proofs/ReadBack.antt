@@ -76,9 +76,9 @@ module _ (octets : List ℕ) (each : AreOctets octets) (nothing : first (look_or
   framed : Framed octets
   framed = looked_framed octets nothing
 
-  pub length_payload : length (payload_of octets) + 6 ≡ length octets
+  pub length-payload : length (payload_of octets) + 6 ≡ length octets
   unfolding payload_of
-  length_payload = omega (arith, framed.whole.seven_least, length-drop 6 octets)
+  length-payload = omega (arith, framed.whole.seven_least, length-drop 6 octets)
 
   -- what they say is in range
   pub header_of_range : InRange (header_of octets)
@@ -90,10 +90,10 @@ module _ (octets : List ℕ) (each : AreOctets octets) (nothing : first (look_or
   }
 
   pub payload_some : 1 ≤ length (payload_of octets)
-  payload_some = omega (arith, length_payload, framed.whole)
+  payload_some = omega (arith, length-payload, framed.whole)
 
   pub payload_most : length (payload_of octets) ≤ 1520
-  payload_most = omega (arith, length_payload, framed.whole)
+  payload_most = omega (arith, length-payload, framed.whole)
 
   pub frame_of_octets : frame (header_of octets) (payload_of octets) ≡ octets
   unfolding frame header_octets pair payload_of header_of pair_at

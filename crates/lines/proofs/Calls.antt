@@ -7,7 +7,7 @@ use borrow.Author.Tests.{eq-eqb, ne_eqb, le-leb, lt-leb}
 use lib.ListN.{length, take}
 use Rattle.lines.specs.declared.Heard.{Heard}
 use Rattle.lines.specs.Text.{AtFront}
-use Rattle.lines.specs.Hearing.{silence, kept, too_long, heard_line, Rules, Standing, hearing, heardAnswer, said, lastSaid, HearCall, FinishCall}
+use Rattle.lines.specs.Hearing.{silence, kept, too_long, heard_line, Rules, Standing, hearing, heard_answer, said, last_said, HearCall, FinishCall}
 use Rattle.lines.proofs.Placed.{at_front_nothing}
 use Rattle.lines.proofs.Text.{put_short, put_fits}
 
@@ -33,7 +33,7 @@ module _ {S : Type 0} (rules : Rules S) (at : Standing S) {before : List ℕ} wh
     pub hear_feed : {octet : ℕ} {then : Standing S} {written : ℕ} {after : List ℕ} → octet ≡ 10
         → then ≡ record { state = rules.after at.state (heard_line at.heard); heard = silence }
         → AtFront (rules.answer at.state (heard_line at.heard)) before written after → HearCall rules at octet before 0 then written after
-    unfolding hearing said heardAnswer
+    unfolding hearing said heard_answer
     hear_feed feed is put = record { said_is = rw (eq-eqb _ _ feed) (put_fits rules.room before room put); then_is = rw (eq-eqb _ _ feed) is }
 
     -- any other octet is kept
@@ -44,10 +44,10 @@ module _ {S : Type 0} (rules : Rules S) (at : Standing S) {before : List ℕ} wh
 
     -- at the end nothing is answered where nothing was heard, and else the last line
     pub finish_empty : at.heard.count ≡ 0 → FinishCall rules at before 0 0 before
-    unfolding lastSaid
+    unfolding last_said
     finish_empty none = record { said_is = rw (eq-eqb _ _ none) (put_fits rules.room before room (at_front_nothing before)) }
 
     pub finish_line : {written : ℕ} {after : List ℕ} → (at.heard.count ≡ 0 → ⊥)
         → AtFront (rules.answer at.state (heard_line at.heard)) before written after → FinishCall rules at before 0 written after
-    unfolding lastSaid heardAnswer
+    unfolding last_said heard_answer
     finish_line some put = record { said_is = rw (ne_eqb _ _ some) (put_fits rules.room before room put) }

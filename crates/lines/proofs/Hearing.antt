@@ -14,7 +14,7 @@ use lib.ListN.{length, get_or, take, drop, set, length-append, length-set}
 use lib.Seq.{take-suc-set, drop-length}
 use Rattle.refusals.proofs.Tests.{by-test}
 use Rattle.lines.specs.declared.Heard.{Heard}
-use Rattle.lines.specs.Hearing.{silence, kept, too_long, heard_line, Rules, Standing, line_rules, hearing, heardAnswer, said, lastSaid, heardAfter}
+use Rattle.lines.specs.Hearing.{silence, kept, too_long, heard_line, Rules, Standing, line_rules, hearing, heard_answer, said, last_said, heard_after}
 use Rattle.lines.specs.Text.{ended}
 use Rattle.lines.specs.Lines.{lines_from, lines_of, answers}
 use Rattle.lines.proofs.Calls.{line_kept, line_too_long}
@@ -107,7 +107,7 @@ module _ {S : Type 0} (rules : Rules S) where
 
   module _ (at : Standing S) (octet : ℕ) where
     said_feed : eqb octet 10 ≡ true → said rules at octet ≡ rules.answer at.state (heard_line at.heard)
-    unfolding said heardAnswer
+    unfolding said heard_answer
     said_feed feed = rw feed
 
     hearing_feed : eqb octet 10 ≡ true → hearing rules at octet ≡ record { state = rules.after at.state (heard_line at.heard); heard = silence }
@@ -126,12 +126,12 @@ module _ {S : Type 0} (rules : Rules S) where
 
   -- all that is said to an input from where a program stands, to the input's end
   said_in_all : Standing S → List ℕ → List ℕ
-  said_in_all at input = said_by rules at input ++ lastSaid rules (heardAfter rules at input)
+  said_in_all at input = said_by rules at input ++ last_said rules (heard_after rules at input)
 
   said_first : (at : Standing S) (octet : ℕ) (rest : List ℕ) → said_in_all at (octet ∷ rest) ≡ said rules at octet ++ said_in_all (hearing rules at octet) rest
-  unfolding said_in_all said_by heardAfter
+  unfolding said_in_all said_by heard_after
   said_first at octet rest =
-      append_assoc (said rules at octet) (said_by rules (hearing rules at octet) rest) (lastSaid rules (heardAfter rules (hearing rules at octet) rest))
+      append_assoc (said rules at octet) (said_by rules (hearing rules at octet) rest) (last_said rules (heard_after rules (hearing rules at octet) rest))
 
   module _ (alike : LongAlike rules) where
     held_answer : (at : Standing S) (line : List ℕ) → Holds at.heard line → rules.answer at.state (heard_line at.heard) ≡ rules.answer at.state line
@@ -141,8 +141,8 @@ module _ {S : Type 0} (rules : Rules S) where
     held_after at line holds = held_same (rules.after at.state) (alike.after_alike at.state) at.heard line holds
 
     -- the end of the input
-    last_answers : (at : Standing S) (line : List ℕ) → Holds at.heard line → lastSaid rules at ≡ answers rules at.state (lines_from line [])
-    unfolding lastSaid heardAnswer lines_from answers
+    last_answers : (at : Standing S) (line : List ℕ) → Holds at.heard line → last_said rules at ≡ answers rules at.state (lines_from line [])
+    unfolding last_said heard_answer lines_from answers
     last_answers at line holds =
         rw (held_empty at.heard line holds)
         (by-test (eqb (length line) 0) _
@@ -151,7 +151,7 @@ module _ {S : Type 0} (rules : Rules S) where
 
     -- what is said where a line is held: the answers to the lines of the input, the first of which began with that line
     said_from : (at : Standing S) (input line : List ℕ) → Holds at.heard line → said_in_all at input ≡ answers rules at.state (lines_from line input)
-    unfolding said_in_all said_by heardAfter lines_from answers
+    unfolding said_in_all said_by heard_after lines_from answers
     said_from at [] line holds = last_answers at line holds
     said_from at (octet ∷ rest) line holds =
         said_first at octet rest
@@ -170,7 +170,7 @@ module _ {S : Type 0} (rules : Rules S) where
 
     -- all that is said to an input, from silence to its end, is the answers to its lines
     pub said_is_answers : (state : S) (input : List ℕ)
-        → said_by rules (record { state = state; heard = silence }) input ++ lastSaid rules (heardAfter rules (record { state = state; heard = silence }) input)
+        → said_by rules (record { state = state; heard = silence }) input ++ last_said rules (heard_after rules (record { state = state; heard = silence }) input)
         ≡ answers rules state (lines_of input)
     unfolding said_in_all lines_of
     said_is_answers state input = said_from (record { state = state; heard = silence }) input [] nothing_held
@@ -178,24 +178,24 @@ module _ {S : Type 0} (rules : Rules S) where
   -- ---- the input in pieces
 
   -- two pieces one after the other are heard, and answered, as the whole
-  pub heard_pieces : (at : Standing S) (a b : List ℕ) → heardAfter rules at (a ++ b) ≡ heardAfter rules (heardAfter rules at a) b
-  unfolding heardAfter
+  pub heard_pieces : (at : Standing S) (a b : List ℕ) → heard_after rules at (a ++ b) ≡ heard_after rules (heard_after rules at a) b
+  unfolding heard_after
   heard_pieces at [] b = refl
   heard_pieces at (octet ∷ a) b = heard_pieces (hearing rules at octet) a b
 
-  pub said_pieces : (at : Standing S) (a b : List ℕ) → said_by rules at (a ++ b) ≡ said_by rules at a ++ said_by rules (heardAfter rules at a) b
-  unfolding said_by heardAfter
+  pub said_pieces : (at : Standing S) (a b : List ℕ) → said_by rules at (a ++ b) ≡ said_by rules at a ++ said_by rules (heard_after rules at a) b
+  unfolding said_by heard_after
   said_pieces at [] b = refl
   said_pieces at (octet ∷ a) b =
       ap (λ (l : List ℕ). said rules at octet ++ l) (said_pieces (hearing rules at octet) a b)
-      ∙ sym (append_assoc (said rules at octet) (said_by rules (hearing rules at octet) a) (said_by rules (heardAfter rules (hearing rules at octet) a) b))
+      ∙ sym (append_assoc (said rules at octet) (said_by rules (hearing rules at octet) a) (said_by rules (heard_after rules (hearing rules at octet) a) b))
 
   -- a piece is heard octet by octet
   pub heard_next : (at : Standing S) (piece : List ℕ) (i : ℕ) → i < length piece
-      → heardAfter rules at (drop i piece) ≡ heardAfter rules (hearing rules at (get_or piece i 0)) (drop (i + 1) piece)
-  unfolding heardAfter
-  heard_next at piece i inside = ap (heardAfter rules at) (from_place piece i inside)
+      → heard_after rules at (drop i piece) ≡ heard_after rules (hearing rules at (get_or piece i 0)) (drop (i + 1) piece)
+  unfolding heard_after
+  heard_next at piece i inside = ap (heard_after rules at) (from_place piece i inside)
 
-  pub heard_all : (at : Standing S) (piece : List ℕ) (i : ℕ) → i ≡ length piece → heardAfter rules at (drop i piece) ≡ at
-  unfolding heardAfter
-  heard_all at piece i end = ap (λ (n : ℕ). heardAfter rules at (drop n piece)) end ∙ ap (heardAfter rules at) (drop-length piece)
+  pub heard_all : (at : Standing S) (piece : List ℕ) (i : ℕ) → i ≡ length piece → heard_after rules at (drop i piece) ≡ at
+  unfolding heard_after
+  heard_all at piece i end = ap (λ (n : ℕ). heard_after rules at (drop n piece)) end ∙ ap (heard_after rules at) (drop-length piece)

@@ -8,7 +8,7 @@ use Rattle.refusals.specs.Call.{Answered, front}
 use Rattle.refusals.proofs.Calls.{done}
 use Rattle.lines.specs.Text.{room_order, puts_text}
 use Rattle.lines.specs.declared.Heard.{Heard}
-use Rattle.lines.specs.Hearing.{silence, Rules, Standing, line_rules, standing, hearing, said, lastSaid, heardAfter, say_call, HearCall}
+use Rattle.lines.specs.Hearing.{silence, Rules, Standing, line_rules, standing, hearing, said, last_said, heard_after, say_call, HearCall}
 use Rattle.lines.specs.Lines.{lines_of, answers, Run, finished, heard_one}
 use Rattle.lines.proofs.Callers.{room_done}
 use Rattle.lines.proofs.Hearing.{said_by, LongAlike, said_is_answers}
@@ -29,19 +29,19 @@ module _ {S : Type 0} (rules : Rules S) where
   then_hearing room call = call.then_is ∙ rw (room_done rules.room _ _ call.said_is room).0
 
   -- a run writes what is said to its input
-  run_said : {at : Standing S} {input output : List ℕ} → Run rules at input output → output ≡ said_by rules at input ++ lastSaid rules (heardAfter rules at input)
-  unfolding said_by heardAfter
+  run_said : {at : Standing S} {input output : List ℕ} → Run rules at input output → output ≡ said_by rules at input ++ last_said rules (heard_after rules at input)
+  unfolding said_by heard_after
   run_said (finished room call) = with_room rules.room _ _ call.said_is room
   run_said (heard_one {at = at} {octet = octet} {rest = rest} room call more) =
       ap₂ (λ (a b : List ℕ). a ++ b) (with_room rules.room _ _ call.said_is room) (run_said more)
-      ∙ ap (λ (s : Standing S). said rules at octet ++ (said_by rules s rest ++ lastSaid rules (heardAfter rules s rest))) (then_hearing room call)
-      ∙ sym (append_assoc (said rules at octet) (said_by rules (hearing rules at octet) rest) (lastSaid rules (heardAfter rules (hearing rules at octet) rest)))
+      ∙ ap (λ (s : Standing S). said rules at octet ++ (said_by rules s rest ++ last_said rules (heard_after rules s rest))) (then_hearing room call)
+      ∙ sym (append_assoc (said rules at octet) (said_by rules (hearing rules at octet) rest) (last_said rules (heard_after rules (hearing rules at octet) rest)))
 
   -- a whole run, from a state and silence on, writes the answers to the lines of its input
   pub run_writes_answers : LongAlike rules → {at : Standing S} {input output : List ℕ} (state : S)
       → at ≡ record { state = state; heard = silence } → Run rules at input output → output ≡ answers rules state (lines_of input)
   run_writes_answers alike {input = input} state begun run =
-      run_said run ∙ ap (λ (s : Standing S). said_by rules s input ++ lastSaid rules (heardAfter rules s input)) begun ∙ said_is_answers rules alike state input
+      run_said run ∙ ap (λ (s : Standing S). said_by rules s input ++ last_said rules (heard_after rules s input)) begun ∙ said_is_answers rules alike state input
 
   -- ---- there is such a run, from everywhere and for every input
 
@@ -57,7 +57,7 @@ module _ {S : Type 0} (rules : Rules S) where
   some_call text = done (say_call rules text room_for_all) (room_enough rules.room room_for_all has_room)
 
   pub some_run : (at : Standing S) (input : List ℕ) → (output : List ℕ) × Run rules at input output
-  some_run at [] = (_, finished has_room (record { said_is = some_call (lastSaid rules at) }))
+  some_run at [] = (_, finished has_room (record { said_is = some_call (last_said rules at) }))
   some_run at (octet ∷ rest) =
       (_, heard_one has_room (record { said_is = some_call (said rules at octet); then_is = refl }) (some_run (hearing rules at octet) rest).1)
 

@@ -52,21 +52,21 @@ module _ {S : Type 0} (rules : Rules S) where
       (record { state = at.state; heard = kept at.heard octet })
 
   -- the answer to the line heard
-  unfoldable pub heardAnswer : Standing S → List ℕ
-  heardAnswer at = rules.answer at.state (heard_line at.heard)
+  unfoldable pub heard_answer : Standing S → List ℕ
+  heard_answer at = rules.answer at.state (heard_line at.heard)
 
   -- what is answered to an octet: at a line feed the line heard is answered
   unfoldable pub said : Standing S → ℕ → List ℕ
-  said at octet = cond (eqb octet 10) (heardAnswer at) []
+  said at octet = cond (eqb octet 10) (heard_answer at) []
 
   -- what is answered at the end of the input: a last line needs no line end, and nothing is answered where nothing was heard
-  unfoldable pub lastSaid : Standing S → List ℕ
-  lastSaid at = cond (eqb at.heard.count 0) [] (heardAnswer at)
+  unfoldable pub last_said : Standing S → List ℕ
+  last_said at = cond (eqb at.heard.count 0) [] (heard_answer at)
 
   -- where a program stands after hearing octets, one after the other
-  unfoldable pub heardAfter : Standing S → List ℕ → Standing S
-  heardAfter at [] = at
-  heardAfter at (octet ∷ rest) = heardAfter (hearing at octet) rest
+  unfoldable pub heard_after : Standing S → List ℕ → Standing S
+  heard_after at [] = at
+  heard_after at (octet ∷ rest) = heard_after (hearing at octet) rest
 
 -- what is said is put to the front of an output that must have the room of the rules, even where nothing is due
 abbrev pub say_call : {S : Type 0} → Rules S → List ℕ → List ℕ → Call (List ℕ)
@@ -79,4 +79,4 @@ pub record HearCall {S : Type 0} (rules : Rules S) (at : Standing S) (octet : �
 
 -- the end of the input: the last line is answered
 pub record FinishCall {S : Type 0} (rules : Rules S) (at : Standing S) (before : List ℕ) (refusal written : ℕ) (after : List ℕ) : Type 0 where
-  pub said_is : Answered (say_call rules (lastSaid rules at) before) refusal (written ∷ []) after
+  pub said_is : Answered (say_call rules (last_said rules at) before) refusal (written ∷ []) after

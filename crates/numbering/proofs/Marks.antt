@@ -88,25 +88,25 @@ module _ (w : ℕ) (wide : 0 < w) (state : Numbering) (can : can_arise w state �
     abbrev place : ℕ
     place = state.next - 1 - n
 
-    abbrev late-marks : ℕ
-    late-marks = bit_or (marks_of state) (2 ^ place)
+    abbrev late_marks : ℕ
+    late_marks = bit_or (marks_of state) (2 ^ place)
 
-    after_late : (m : ℕ) → Claim (numbering_of state.next late-marks) m
+    after_late : (m : ℕ) → Claim (numbering_of state.next late_marks) m
     after_late m = go (ℕ_discrete m n) (dec_lt m state.next) (dec_le state.next (m + w))
       where
-        unchanged : (m ≡ n → ⊥) → m < state.next → mark late-marks (state.next - 1 - m) ≡ mark (marks_of state) (state.next - 1 - m)
+        unchanged : (m ≡ n → ⊥) → m < state.next → mark late_marks (state.next - 1 - m) ≡ mark (marks_of state) (state.next - 1 - m)
         unchanged apart old = mark_kept (marks_of state) place (state.next - 1 - m) (λ same. apart (omega arith))
 
-        go : Dec (m ≡ n) → Dec (m < state.next) → Dec (state.next ≤ m + w) → Claim (numbering_of state.next late-marks) m
+        go : Dec (m ≡ n) → Dec (m < state.next) → Dec (state.next ≤ m + w) → Claim (numbering_of state.next late_marks) m
         go (yes same) _ _ =
-            subst⁻¹ (Claim (numbering_of state.next late-marks)) same
-            (itself state.next late-marks late inside.not_below (mark_set (marks_of state) place))
-        go (no apart) (no above) _ = from_next state.next late-marks m (omega arith) late (omega arith)
+            subst⁻¹ (Claim (numbering_of state.next late_marks)) same
+            (itself state.next late_marks late inside.not_below (mark_set (marks_of state) place))
+        go (no apart) (no above) _ = from_next state.next late_marks m (omega arith) late (omega arith)
         go (no apart) (yes old) (yes in_window) =
-            kept state.next late-marks m apart in_window
-            (accepted_by state.next late-marks m old ∙ ap (λ (b : ℕ). eqb b 1) (unchanged apart old) ∙ sym (old_accepted state m old))
+            kept state.next late_marks m apart in_window
+            (accepted_by state.next late_marks m old ∙ ap (λ (b : ℕ). eqb b 1) (unchanged apart old) ∙ sym (old_accepted state m old))
         go (no apart) (yes old) (no out) =
-            cut state.next late-marks m old (omega arith)
+            cut state.next late_marks m old (omega arith)
             (unchanged apart old ∙ beyond state.next (marks_of state) (state.next - 1 - m) was.within (omega arith))
 
   -- n is in the window as it was

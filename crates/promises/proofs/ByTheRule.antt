@@ -19,7 +19,7 @@ use Rattle.numbering.proofs.Marks.{accepted_marks}
 use Rattle.octets.specs.Xor.{xored}
 use Rattle.keystreams.proofs.Laws.{gea4_prepared}
 use Rattle.frames.specs.Frame.{AreOctets, frame, header_of, payload_of, look_order}
-use Rattle.frames.proofs.ReadBack.{length_payload, frame_of_octets}
+use Rattle.frames.proofs.ReadBack.{length-payload, frame_of_octets}
 use Rattle.frames.proofs.Laws.{look_empty}
 use Rattle.link.specs.declared.Link.{Link}
 use Rattle.link.specs.Input.{input_of}
@@ -100,7 +100,7 @@ module _ (w : ℕ) (wide : 0 < w) (narrow : w ≤ 512) (receiver : Receiver) (oc
         is_candidate = its.is_candidate;
         before_end = its.before_end;
         not_repeat = fresh;
-        size_is = ap (λ (k : ℕ). k + 6) size_is ∙ length_payload octets each its.numbered.passes_look;
+        size_is = ap (λ (k : ℕ). k + 6) size_is ∙ length-payload octets each its.numbered.passes_look;
         frame_is = frame_is;
         past = ap (drop size) output_is ∙ drop_at clear (drop (length clear) before) size length_clear ∙ ap (λ (k : ℕ). drop k before) length_clear;
         new = λ above. ap (λ (s : Numbering). s.next) (numbering_is ∙ accepted_new w receiver.numbering number above);

@@ -30,7 +30,7 @@ use Rattle.promises.specs.Ends.{SealCall, OpenCall, SentFrame, with_sealed, Send
 use Rattle.promises.specs.Examples.{RunOf, Misread, Shown, AlwaysShown}
 use Rattle.promises.proofs.BenchLaws.{bench_half}
 use Rattle.promises.proofs.ShortKeys.{receiver_same}
-use Rattle.promises.proofs.SealingAgain.{opening_allowed, sender_opens, sent-at, sent-from, one_from, good_sender, sends_from}
+use Rattle.promises.proofs.SealingAgain.{opening_allowed, sender_opens, sent_at, sent_from, one_from, good_sender, sends_from}
 use Rattle.promises.proofs.Misread.{turn_not_on_air, outside}
 
 module _ (key : List ℕ) (iov sapi direction : ℕ) (valid : is_key key ≡ true) (service : is_service sapi ≡ true) (way : is_direction direction ≡ true)
@@ -40,11 +40,11 @@ module _ (key : List ℕ) (iov sapi direction : ℕ) (valid : is_key key ≡ tru
   link = link_of key iov sapi direction
 
   -- its sender with next number n, all that it was told used up, and its receiver with a numbering
-  abbrev sender-at : ℕ → Sender
-  sender-at n = sender_of link n n
+  abbrev sender_at : ℕ → Sender
+  sender_at n = sender_of link n n
 
-  abbrev receiver-at : Numbering → Receiver
-  receiver-at numbering = receiver_of link numbering
+  abbrev receiver_at : Numbering → Receiver
+  receiver_at numbering = receiver_of link numbering
 
   allowed : first (link_order key sapi direction) ≡ 0
   allowed = opening_allowed key sapi direction valid service way
@@ -52,43 +52,43 @@ module _ (key : List ℕ) (iov sapi direction : ℕ) (valid : is_key key ≡ tru
   link_good : link_can_arise link ≡ true
   link_good = opened_link key iov sapi direction allowed
 
-  receiver_opens : Answered (open_receiver_call key iov sapi direction) 0 [] (receiver-at start)
+  receiver_opens : Answered (open_receiver_call key iov sapi direction) 0 [] (receiver_at start)
   unfolding new_receiver
   receiver_opens = done (open_receiver_call key iov sapi direction) allowed
 
   -- ---- the sender
 
   -- the frame of number n
-  abbrev sent-frame : ℕ → SentFrame
-  sent-frame n = sent-at link payload n
+  abbrev sent_frame : ℕ → SentFrame
+  sent_frame n = sent_at link payload n
 
   -- a seal of no payload is refused, and the sender goes on
-  abbrev empty-call : SealCall
-  empty-call = record { payload = []; before = []; refusal = 3; number = 0; size = 0; after = [] }
+  abbrev empty_call : SealCall
+  empty_call = record { payload = []; before = []; refusal = 3; number = 0; size = 0; after = [] }
 
-  seals_nothing : bench_sending.Seals (sender-at 0) empty-call (sender-at 0)
+  seals_nothing : bench_sending.Seals (sender_at 0) empty_call (sender_at 0)
   seals_nothing =
-      refused-with (seal_call (sender-at 0) [] []) 3 (seal_3_empty (sender-at 0) [] [] (good_sender link [] link_good 0 0 zero-le zero-le zero-le) refl) (eqb-false 3 0 refl)
+      refused-with (seal_call (sender_at 0) [] []) 3 (seal_3_empty (sender_at 0) [] [] (good_sender link [] link_good 0 0 zero-le zero-le zero-le) refl) (eqb-false 3 0 refl)
 
   -- 962 frames, after a refused call
   abbrev frames : List SentFrame
-  frames = sent-from link payload 0 962
+  frames = sent_from link payload 0 962
 
-  all_sent : Sends bench_sending (sender-at 0) frames (sender-at 962)
+  all_sent : Sends bench_sending (sender_at 0) frames (sender_at 962)
   unfolding with_sealed end
-  all_sent = seal empty-call seals_nothing (sends_from link payload link_good some most 0 962 (lit≤ tt))
+  all_sent = seal empty_call seals_nothing (sends_from link payload link_good some most 0 962 (lit≤ tt))
 
-  one_of : (n : ℕ) → n < 962 → IsOneOf (sent-frame n) frames
-  one_of n below = subst (λ (m : ℕ). IsOneOf (sent-frame m) frames) {x = 0 + n} (omega arith) (one_from link payload 0 962 n below)
+  one_of : (n : ℕ) → n < 962 → IsOneOf (sent_frame n) frames
+  one_of n below = subst (λ (m : ℕ). IsOneOf (sent_frame m) frames) {x = 0 + n} (omega arith) (one_from link payload 0 962 n below)
 
-  octets_are : (n : ℕ) → n < 962 → frame_at link n payload ≡ (sent-frame n).octets
-  octets_are n below = sym ((bench_half all_sent).each_is (sent-frame n) (one_of n below)).octets_are
+  octets_are : (n : ℕ) → n < 962 → frame_at link n payload ≡ (sent_frame n).octets
+  octets_are n below = sym ((bench_half all_sent).each_is (sent_frame n) (one_of n below)).octets_are
 
   -- ---- the receiver
 
   -- events from one numbering to another, within the window, in which these numbers arrive
   record Going (numbering last : Numbering) (numbers : List ℕ) : Type 0 where
-    events : Events (bench_receiving width) frames (receiver-at numbering) (receiver-at last)
+    events : Events (bench_receiving width) frames (receiver_at numbering) (receiver_at last)
     in_window : AllInWindow width events
     arrived : arrivals events ≡ numbers
 
@@ -102,24 +102,24 @@ module _ (key : List ℕ) (iov sapi direction : ℕ) (valid : is_key key ≡ tru
   unfolding end
   below_end sent = omega arith
 
-  good_receiver : (numbering : Numbering) → can_arise width numbering ≡ true → receiver_can_arise width (receiver-at numbering) ≡ true
+  good_receiver : (numbering : Numbering) → can_arise width numbering ≡ true → receiver_can_arise width (receiver_at numbering) ≡ true
   unfolding receiver_can_arise
   good_receiver numbering good = simp (link_good, good)
 
   -- frame n presented, with an output, and its answer
-  abbrev call-of : ℕ → List ℕ → ℕ → ℕ → List ℕ → OpenCall
-  call-of n before refusal size after =
-      record { presented = (sent-frame n).octets; before = before; refusal = refusal; number = n; size = size; after = after }
+  abbrev call_of : ℕ → List ℕ → ℕ → ℕ → List ℕ → OpenCall
+  call_of n before refusal size after =
+      record { presented = (sent_frame n).octets; before = before; refusal = refusal; number = n; size = size; after = after }
 
   new : {numbering last : Numbering} {numbers : List ℕ} (n : ℕ) → Ready numbering n → is_accepted numbering n ≡ false → Going (accepted width numbering n) last numbers
       → Going numbering last (n ∷ numbers)
   unfolding after_accepting
   new {numbering} n ready anew going = record {
     events =
-        arrival (sent-frame n) (call-of n payload 0 (length payload) (front payload payload)) (one_of n ready.sent) refl (omega arith)
-        (subst (λ (o : List ℕ). Answered (open_call width (receiver-at numbering) o payload) 0 (n ∷ length payload ∷ []) (record { receiver = receiver-at (accepted width numbering n); output = front payload payload }))
+        arrival (sent_frame n) (call_of n payload 0 (length payload) (front payload payload)) (one_of n ready.sent) refl (omega arith)
+        (subst (λ (o : List ℕ). Answered (open_call width (receiver_at numbering) o payload) 0 (n ∷ length payload ∷ []) (record { receiver = receiver_at (accepted width numbering n); output = front payload payload }))
         (octets_are n ready.sent)
-        (open_new width (lit≤ tt) (receiver-at numbering) (good_receiver numbering ready.good) n ready.inside (below_end ready.sent) payload some most payload anew (omega arith)))
+        (open_new width (lit≤ tt) (receiver_at numbering) (good_receiver numbering ready.good) n ready.inside (below_end ready.sent) payload some most payload anew (omega arith)))
         going.events;
     in_window = (ready.inside, going.in_window);
     arrived = ap (λ (l : List ℕ). n ∷ l) going.arrived;
@@ -128,10 +128,10 @@ module _ (key : List ℕ) (iov sapi direction : ℕ) (valid : is_key key ≡ tru
   again : {numbering last : Numbering} {numbers : List ℕ} (n : ℕ) → Ready numbering n → is_accepted numbering n ≡ true → Going numbering last numbers → Going numbering last (n ∷ numbers)
   again {numbering} n ready marked going = record {
     events =
-        arrival (sent-frame n) (call-of n payload 11 0 payload) (one_of n ready.sent) refl (omega arith)
-        (subst (λ (o : List ℕ). Answered (open_call width (receiver-at numbering) o payload) 11 (n ∷ 0 ∷ []) (record { receiver = receiver-at numbering; output = payload }))
+        arrival (sent_frame n) (call_of n payload 11 0 payload) (one_of n ready.sent) refl (omega arith)
+        (subst (λ (o : List ℕ). Answered (open_call width (receiver_at numbering) o payload) 11 (n ∷ 0 ∷ []) (record { receiver = receiver_at numbering; output = payload }))
         (octets_are n ready.sent)
-        (open_repeat width (lit≤ tt) (receiver-at numbering) (good_receiver numbering ready.good) n ready.inside (below_end ready.sent) payload some most payload marked))
+        (open_repeat width (lit≤ tt) (receiver_at numbering) (good_receiver numbering ready.good) n ready.inside (below_end ready.sent) payload some most payload marked))
         going.events;
     in_window = (ready.inside, going.in_window);
     arrived = ap (λ (l : List ℕ). n ∷ l) going.arrived;
@@ -143,8 +143,8 @@ module _ (key : List ℕ) (iov sapi direction : ℕ) (valid : is_key key ≡ tru
   silence {numbering} good going = record {
     events =
         refused (record { presented = []; before = []; refusal = 5; number = 0; size = 0; after = [] }) (eqb-false 5 0 refl)
-        (refused-with (open_call width (receiver-at numbering) [] []) 5
-        (open_looked width (receiver-at numbering) [] [] (good_receiver numbering good) (eqb-false 5 0 refl))
+        (refused-with (open_call width (receiver_at numbering) [] []) 5
+        (open_looked width (receiver_at numbering) [] [] (good_receiver numbering good) (eqb-false 5 0 refl))
         (eqb-false 5 0 refl))
         going.events;
     in_window = going.in_window;
@@ -159,10 +159,10 @@ module _ (key : List ℕ) (iov sapi direction : ℕ) (valid : is_key key ≡ tru
       → Going numbering last numbers
   no_room {numbering} n ready anew going = record {
     events =
-        refused (call-of n [] 4 0 []) (eqb-false 4 0 refl)
-        (subst (λ (o : List ℕ). Answered (open_call width (receiver-at numbering) o []) 4 (n ∷ 0 ∷ []) (record { receiver = receiver-at numbering; output = [] }))
+        refused (call_of n [] 4 0 []) (eqb-false 4 0 refl)
+        (subst (λ (o : List ℕ). Answered (open_call width (receiver_at numbering) o []) 4 (n ∷ 0 ∷ []) (record { receiver = receiver_at numbering; output = [] }))
         (octets_are n ready.sent)
-        (open_no_room width (lit≤ tt) (receiver-at numbering) (good_receiver numbering ready.good) n ready.inside (below_end ready.sent) payload some most [] anew some))
+        (open_no_room width (lit≤ tt) (receiver_at numbering) (good_receiver numbering ready.good) n ready.inside (below_end ready.sent) payload some most [] anew some))
         going.events;
     in_window = going.in_window;
     arrived = going.arrived;
@@ -195,9 +195,9 @@ module _ (key : List ℕ) (iov sapi direction : ℕ) (valid : is_key key ≡ tru
   length_garbled m n = length-ciphered link n (ciphered link m payload) ∙ length-ciphered link m payload
 
   -- the open call that hands out frame m under number n
-  abbrev garbled-call : ℕ → ℕ → OpenCall
-  garbled-call m n = record {
-    presented = (sent-frame m).octets;
+  abbrev garbled_call : ℕ → ℕ → OpenCall
+  garbled_call m n = record {
+    presented = (sent_frame m).octets;
     before = payload;
     refusal = 0;
     number = n;
@@ -206,13 +206,13 @@ module _ (key : List ℕ) (iov sapi direction : ℕ) (valid : is_key key ≡ tru
   }
 
   taken_for : {numbering : Numbering} (m n : ℕ) → m < 962 → m % 512 ≡ n % 512 → Ready numbering n → is_accepted numbering n ≡ false
-      → (bench_receiving width).Opens (receiver-at numbering) (garbled-call m n) (receiver-at (accepted width numbering n))
+      → (bench_receiving width).Opens (receiver_at numbering) (garbled_call m n) (receiver_at (accepted width numbering n))
   unfolding garbled after_accepting
   taken_for {numbering} m n sent same ready anew =
       let long = length_garbled m n in
-      subst (λ (o : List ℕ). Answered (open_call width (receiver-at numbering) o payload) 0 (n ∷ length (garbled m n) ∷ []) (record { receiver = receiver-at (accepted width numbering n); output = front (garbled m n) payload }))
+      subst (λ (o : List ℕ). Answered (open_call width (receiver_at numbering) o payload) 0 (n ∷ length (garbled m n) ∷ []) (record { receiver = receiver_at (accepted width numbering n); output = front (garbled m n) payload }))
       (sym (turn_not_on_air link m n payload same) ∙ octets_are m sent)
-      (open_new width (lit≤ tt) (receiver-at numbering) (good_receiver numbering ready.good) n ready.inside (below_end ready.sent) (garbled m n)
+      (open_new width (lit≤ tt) (receiver_at numbering) (good_receiver numbering ready.good) n ready.inside (below_end ready.sent) (garbled m n)
       (omega (arith, some, long)) (omega (arith, most, long)) payload anew (omega (arith, long)))
 
   up_to_481 : Going start (numbering_of 481 1) (0 ∷ 480 ∷ [])
@@ -225,18 +225,18 @@ module _ (key : List ℕ) (iov sapi direction : ℕ) (valid : is_key key ≡ tru
 
   -- ---- the receiver may have been handed another key that yields the same
   module _ (other : List ℕ) (other-valid : is_key other ≡ true) (same : prepared key ≡ prepared other) where
-    other_opens : Answered (open_receiver_call other iov sapi direction) 0 [] (receiver-at start)
+    other_opens : Answered (open_receiver_call other iov sapi direction) 0 [] (receiver_at start)
     other_opens =
-        subst (λ (entry : Call Receiver). Answered entry 0 [] (receiver-at start)) (receiver_same key other (valid ∙ sym other-valid) same iov sapi direction)
+        subst (λ (entry : Call Receiver). Answered entry 0 [] (receiver_at start)) (receiver_same key other (valid ∙ sym other-valid) same iov sapi direction)
         receiver_opens
 
     -- such events as a run
     abbrev run_of : {last : Numbering} {numbers : List ℕ} → Going start last numbers → RunOf width key other iov sapi direction numbers
     run_of {last} going = record {
-      sender = sender-at 0;
-      sender_last = sender-at 962;
-      receiver = receiver-at start;
-      receiver_last = receiver-at last;
+      sender = sender_at 0;
+      sender_last = sender_at 962;
+      receiver = receiver_at start;
+      receiver_last = receiver_at last;
       frames = frames;
       opened = record { same_key = same; sender_opened = sender_opens key iov sapi direction allowed; receiver_opened = other_opens };
       sent = all_sent;
@@ -249,9 +249,9 @@ module _ (key : List ℕ) (iov sapi direction : ℕ) (valid : is_key key ≡ tru
     misread : {last : Numbering} {numbers : List ℕ} (going : Going start last numbers) (m n : ℕ) → m < 962 → m % 512 ≡ n % 512 → Ready last n → is_accepted last n ≡ false
         → (n ≡ m → ⊥) → Misread (run_of going) last.next m n
     misread {last} going m n sent same ready anew differ = record {
-      frame = sent-frame m;
-      call = garbled-call m n;
-      later = receiver-at (accepted width last n);
+      frame = sent_frame m;
+      call = garbled_call m n;
+      later = receiver_at (accepted width last n);
       next_is = refl;
       number_is = refl;
       one = one_of m sent;

@@ -38,7 +38,7 @@ use Rattle.promises.specs.PulledPlug.{ThreeCuts, TellsFirst, HandedOutAgain, Ope
 use Rattle.promises.proofs.BenchLaws.{bench_half}
 use Rattle.promises.proofs.FrameOctets.{frame_at_octets}
 use Rattle.promises.proofs.HostLaws.{link_with, host_half}
-use Rattle.promises.proofs.SealingAgain.{opening_allowed, sender_opens, seal-call, sent-at, sent-from, length_sent, one_from, good_sender, tells_one, seals_one, sends_from}
+use Rattle.promises.proofs.SealingAgain.{opening_allowed, sender_opens, sealing_call, sent_at, sent_from, length-sent, one_from, good_sender, tells_one, seals_one, sends_from}
 use Rattle.promises.proofs.Promise3.{promise_3}
 
 -- ---- hosts of any setting that opens a sender
@@ -61,16 +61,16 @@ module _ (setting : Setting) (fits : Opens setting) where
   iov_fits = fits.iov_fits
 
   -- a host whose sender has this next number and this reservation
-  abbrev host-at : ℕ → ℕ → Stored → Host
-  host-at next reserved stored = record { setting = setting; sender = sender_of link next reserved; stored = stored }
+  abbrev host_at : ℕ → ℕ → Stored → Host
+  host_at next reserved stored = record { setting = setting; sender = sender_of link next reserved; stored = stored }
 
   -- the new host
-  new_host : NewHost (host-at 0 0 nothing_yet)
+  new_host : NewHost (host_at 0 0 nothing_yet)
   new_host = record { opened = sender_opens setting.key setting.iov setting.sapi setting.direction allowed; empty = refl; iov_fits = fits.iov_fits }
 
   -- what is stored with a reservation: the form, written to 29 octets
-  abbrev stored-with : ℕ → Stored
-  stored-with reserved = form_with (take (form_size 1) (front (sender_form link reserved) (replicate 29 0))) reserved
+  abbrev stored_with : ℕ → Stored
+  stored_with reserved = form_with (take (form_size 1) (front (sender_form link reserved) (replicate 29 0))) reserved
 
   -- the reservations that a sender may be told
   record Near (next reserved more : ℕ) : Type 0 where
@@ -97,25 +97,25 @@ module _ (setting : Setting) (fits : Opens setting) where
   in_front reserved = form_in_front 1 link (reserved ∷ []) sixteen (replicate 29 0)
 
   module _ {Tells : Stored → ℕ → Type 0} where
-    stores : {stored : Stored} (next reserved more : ℕ) → Near next reserved more → HostStep Tells (host-at next reserved stored) (host-at next reserved (stored-with more))
+    stores : {stored : Stored} (next reserved more : ℕ) → Near next reserved more → HostStep Tells (host_at next reserved stored) (host_at next reserved (stored_with more))
     stores next reserved more is = store more (replicate 29 0) (written is)
 
-    tells : {stored : Stored} (next reserved more : ℕ) → Tells stored more → Near next reserved more → HostStep Tells (host-at next reserved stored) (host-at next more stored)
+    tells : {stored : Stored} (next reserved more : ℕ) → Tells stored more → Near next reserved more → HostStep Tells (host_at next reserved stored) (host_at next more stored)
     tells next reserved more may is = tell more may (tells_one link [] link_good next reserved more is.within is.not_lower is.near is.before_end)
 
     -- a restart from what is stored, and one where nothing is
-    restarts_at : (next reserved more : ℕ) → more ≤ end → HostStep Tells (host-at next reserved (stored-with more)) (host-at more more (stored-with more))
+    restarts_at : (next reserved more : ℕ) → more ≤ end → HostStep Tells (host_at next reserved (stored_with more)) (host_at more more (stored_with more))
     restarts_at next reserved more before_end =
         restart 0
         (subst (λ (o : List ℕ). Answered (restore_sender_call o) 0 [] (sender_of link more more)) (sym (in_front more))
         (sender_restores link more sixteen iov_fits link_good before_end))
 
-    reopens : (next reserved : ℕ) → HostStep Tells (host-at next reserved nothing_yet) (host-at 0 0 nothing_yet)
+    reopens : (next reserved : ℕ) → HostStep Tells (host_at next reserved nothing_yet) (host_at 0 0 nothing_yet)
     reopens next reserved = restart 0 (sender_opens setting.key setting.iov setting.sapi setting.direction allowed)
 
   -- a payload of one octet is sealed
   seals : {stored : Stored} (octet next reserved : ℕ) → next < reserved → reserved ≤ next + ahead → reserved ≤ end
-      → HostSeals (host-at next reserved stored) (seal-call link (octet ∷ []) next) (host-at (next + 1) reserved stored)
+      → HostSeals (host_at next reserved stored) (sealing_call link (octet ∷ []) next) (host_at (next + 1) reserved stored)
   seals octet next reserved below near before_end = record {
     sender = sender_of link (next + 1) reserved;
     seals = seals_one link (octet ∷ []) link_good (lit≤ tt) (lit≤ tt) next reserved below near before_end;
@@ -129,37 +129,37 @@ module _ (setting : Setting) (fits : Opens setting) where
   -- so many frames, each after a reservation for it alone
   record Sealing (n k : ℕ) (stored : Stored) : Type 0 where
     last : Host
-    sends : Sends careful_sending (host-at n n stored) (sent-from link (7 ∷ []) n k) last
+    sends : Sends careful_sending (host_at n n stored) (sent_from link (7 ∷ []) n k) last
 
   seals_from : (n k : ℕ) (stored : Stored) → n + k ≤ end → Sealing n k stored
   unfolding with_sealed frame_sealed
-  seals_from n zero stored below = record { last = host-at n n stored; sends = no_more }
+  seals_from n zero stored below = record { last = host_at n n stored; sends = no_more }
   seals_from n (suc k) stored below =
       let near : Near n n (suc n) = record { within = omega arith; not_lower = omega arith; near = omega arith; before_end = omega arith } in
-      let others = seals_from (suc n) k (stored-with (suc n)) (omega arith) in
+      let others = seals_from (suc n) k (stored_with (suc n)) (omega arith) in
       record {
         last = others.last;
         sends =
             step (stores n n (suc n) near)
             (step (tells n n (suc n) refl near)
-            (seal (seal-call link (7 ∷ []) n)
-            (subst (λ (next : ℕ). HostSeals (host-at n (suc n) (stored-with (suc n))) (seal-call link (7 ∷ []) n) (host-at next (suc n) (stored-with (suc n)))) (add-one n) (seals 7 n (suc n) (omega arith) (omega arith) (omega arith)))
+            (seal (sealing_call link (7 ∷ []) n)
+            (subst (λ (next : ℕ). HostSeals (host_at n (suc n) (stored_with (suc n))) (sealing_call link (7 ∷ []) n) (host_at next (suc n) (stored_with (suc n)))) (add-one n) (seals 7 n (suc n) (omega arith) (omega arith) (omega arith)))
             others.sends));
       }
 
   -- the frame of a number with a payload of one octet
   abbrev sent : ℕ → ℕ → SentFrame
-  sent octet n = sent-at link (octet ∷ []) n
+  sent octet n = sent_at link (octet ∷ []) n
 
   -- ---- the receiver
 
-  abbrev receiver-at : Numbering → Receiver
-  receiver-at numbering = receiver_of link numbering
+  abbrev receiver_at : Numbering → Receiver
+  receiver_at numbering = receiver_of link numbering
 
   abbrev receiver : Receiver
-  receiver = receiver-at start
+  receiver = receiver_at start
 
-  receiver_can : (numbering : Numbering) → can_arise width numbering ≡ true → receiver_can_arise width (receiver-at numbering) ≡ true
+  receiver_can : (numbering : Numbering) → can_arise width numbering ≡ true → receiver_can_arise width (receiver_at numbering) ≡ true
   unfolding receiver_can_arise
   receiver_can numbering can = simp (link_good, can)
 
@@ -168,37 +168,37 @@ module _ (setting : Setting) (fits : Opens setting) where
   receiver_opens = done (open_receiver_call setting.key setting.iov setting.sapi setting.direction) allowed
 
   -- a frame of the host, with a payload of one octet, that is new and within the window is handed out
-  abbrev call-of : ℕ → OpenCall
-  call-of n = record { presented = (sent 7 n).octets; before = 0 ∷ []; refusal = 0; number = n; size = 1; after = 7 ∷ [] }
+  abbrev call_of : ℕ → OpenCall
+  call_of n = record { presented = (sent 7 n).octets; before = 0 ∷ []; refusal = 0; number = n; size = 1; after = 7 ∷ [] }
 
   opens_at : {numbering : Numbering} (n : ℕ) → can_arise width numbering ≡ true → InWindow width numbering.next n → n < end → is_accepted numbering n ≡ false
       → frame_at link n (7 ∷ []) ≡ (sent 7 n).octets
-      → (bench_receiving width).Opens (receiver-at numbering) (call-of n) (receiver-at (accepted width numbering n))
+      → (bench_receiving width).Opens (receiver_at numbering) (call_of n) (receiver_at (accepted width numbering n))
   unfolding front after_accepting receiver_can_arise
   opens_at {numbering} n can inside below anew octets_are =
-      subst (λ (o : List ℕ). Answered (open_call width (receiver-at numbering) o (0 ∷ [])) 0 (n ∷ 1 ∷ []) (record { receiver = receiver-at (accepted width numbering n); output = 7 ∷ [] })) octets_are
-      (open_new width (lit≤ tt) (receiver-at numbering) (simp (link_good, can)) n inside below (7 ∷ []) (lit≤ tt) (lit≤ tt) (0 ∷ []) anew (lit≤ tt))
+      subst (λ (o : List ℕ). Answered (open_call width (receiver_at numbering) o (0 ∷ [])) 0 (n ∷ 1 ∷ []) (record { receiver = receiver_at (accepted width numbering n); output = 7 ∷ [] })) octets_are
+      (open_new width (lit≤ tt) (receiver_at numbering) (simp (link_good, can)) n inside below (7 ∷ []) (lit≤ tt) (lit≤ tt) (0 ∷ []) anew (lit≤ tt))
 
   -- ---- three cuts
 
-  three_cuts_sent : Sends careful_sending (host-at 0 0 nothing_yet) (sent 7 0 ∷ sent 7 1 ∷ sent 7 2 ∷ sent 7 128 ∷ sent 7 130 ∷ []) (host-at 131 131 (stored-with 131))
+  three_cuts_sent : Sends careful_sending (host_at 0 0 nothing_yet) (sent 7 0 ∷ sent 7 1 ∷ sent 7 2 ∷ sent 7 128 ∷ sent 7 130 ∷ []) (host_at 131 131 (stored_with 131))
   unfolding with_sealed frame_sealed
   three_cuts_sent =
       step (stores 0 0 64 (near_by tt tt tt tt))
       (step (tells 0 0 64 refl (near_by tt tt tt tt))
-      (seal (seal-call link (7 ∷ []) 0) (seals 7 0 64 (lit< tt) (lit≤ tt) (below_end tt))
-      (seal (seal-call link (7 ∷ []) 1) (seals 7 1 64 (lit< tt) (lit≤ tt) (below_end tt))
-      (seal (seal-call link (7 ∷ []) 2) (seals 7 2 64 (lit< tt) (lit≤ tt) (below_end tt))
+      (seal (sealing_call link (7 ∷ []) 0) (seals 7 0 64 (lit< tt) (lit≤ tt) (below_end tt))
+      (seal (sealing_call link (7 ∷ []) 1) (seals 7 1 64 (lit< tt) (lit≤ tt) (below_end tt))
+      (seal (sealing_call link (7 ∷ []) 2) (seals 7 2 64 (lit< tt) (lit≤ tt) (below_end tt))
       (step (restarts_at 3 64 64 (below_end tt))
       (step (stores 64 64 128 (near_by tt tt tt tt))
       (step (restarts_at 64 64 128 (below_end tt))
       (step (stores 128 128 130 (near_by tt tt tt tt))
       (step (tells 128 128 130 refl (near_by tt tt tt tt))
-      (seal (seal-call link (7 ∷ []) 128) (seals 7 128 130 (lit< tt) (lit≤ tt) (below_end tt))
+      (seal (sealing_call link (7 ∷ []) 128) (seals 7 128 130 (lit< tt) (lit≤ tt) (below_end tt))
       (step (restarts_at 129 130 130 (below_end tt))
       (step (stores 130 130 131 (near_by tt tt tt tt))
       (step (tells 130 130 131 refl (near_by tt tt tt tt))
-      (seal (seal-call link (7 ∷ []) 130) (seals 7 130 131 (lit< tt) (lit≤ tt) (below_end tt))
+      (seal (sealing_call link (7 ∷ []) 130) (seals 7 130 131 (lit< tt) (lit≤ tt) (below_end tt))
       no_more))))))))))))))
 
   -- each frame of the host is the frame of its number
@@ -208,14 +208,14 @@ module _ (setting : Setting) (fits : Opens setting) where
   inside : {v n : ℕ} → T (leb v (n + width)) → T (ltb (n + width) (v + 512)) → InWindow width v n
   inside low high = record { not_below = lit≤ low; not_above = lit< high }
 
-  three_cuts_heard : Events (bench_receiving width) (sent 7 0 ∷ sent 7 1 ∷ sent 7 2 ∷ sent 7 128 ∷ sent 7 130 ∷ []) receiver (receiver-at (numbering_of 131 5))
+  three_cuts_heard : Events (bench_receiving width) (sent 7 0 ∷ sent 7 1 ∷ sent 7 2 ∷ sent 7 128 ∷ sent 7 130 ∷ []) receiver (receiver_at (numbering_of 131 5))
   unfolding can_arise is_accepted marks_of mark accepted end
   three_cuts_heard =
-      arrival (sent 7 0) (call-of 0) here refl (lit≤ tt) (opens_at 0 refl (inside tt tt) (lit< tt) refl (octets_of_lem (sent 7 0) here))
-      (arrival (sent 7 2) (call-of 2) (there (there here)) refl (lit≤ tt) (opens_at 2 refl (inside tt tt) (lit< tt) refl (octets_of_lem (sent 7 2) (there (there here))))
-      (arrival (sent 7 128) (call-of 128) (there (there (there here))) refl (lit≤ tt)
+      arrival (sent 7 0) (call_of 0) here refl (lit≤ tt) (opens_at 0 refl (inside tt tt) (lit< tt) refl (octets_of_lem (sent 7 0) here))
+      (arrival (sent 7 2) (call_of 2) (there (there here)) refl (lit≤ tt) (opens_at 2 refl (inside tt tt) (lit< tt) refl (octets_of_lem (sent 7 2) (there (there here))))
+      (arrival (sent 7 128) (call_of 128) (there (there (there here))) refl (lit≤ tt)
       (opens_at 128 refl (inside tt tt) (lit< tt) refl (octets_of_lem (sent 7 128) (there (there (there here)))))
-      (arrival (sent 7 130) (call-of 130) (there (there (there (there here)))) refl (lit≤ tt)
+      (arrival (sent 7 130) (call_of 130) (there (there (there (there here)))) refl (lit≤ tt)
       (opens_at 130 refl (inside tt tt) (lit< tt) refl (octets_of_lem (sent 7 130) (there (there (there (there here))))))
       no_more)))
 
@@ -233,10 +233,10 @@ module _ (setting : Setting) (fits : Opens setting) where
   pub three_cuts : ThreeCuts setting
   unfolding three_cuts_sent three_cuts_heard new_host stores tells restarts_at with_sealed frame_sealed
   three_cuts = record {
-    host = host-at 0 0 nothing_yet;
-    last = host-at 131 131 (stored-with 131);
+    host = host_at 0 0 nothing_yet;
+    last = host_at 131 131 (stored_with 131);
     receiver = receiver;
-    receiver_last = receiver-at (numbering_of 131 5);
+    receiver_last = receiver_at (numbering_of 131 5);
     frames = sent 7 0 ∷ sent 7 1 ∷ sent 7 2 ∷ sent 7 128 ∷ sent 7 130 ∷ [];
     with_setting = refl;
     alike = record { new = new_host; alike = ends_alike };
@@ -249,25 +249,25 @@ module _ (setting : Setting) (fits : Opens setting) where
 
   -- ---- a host that tells before it stores
 
-  twice_sent : Sends (hosting Anything) (host-at 0 0 nothing_yet) (sent 7 0 ∷ sent 7 1 ∷ sent 8 1 ∷ []) (host-at 2 2 (stored-with 2))
+  twice_sent : Sends (hosting Anything) (host_at 0 0 nothing_yet) (sent 7 0 ∷ sent 7 1 ∷ sent 8 1 ∷ []) (host_at 2 2 (stored_with 2))
   unfolding with_sealed frame_sealed
   twice_sent =
       step (stores 0 0 1 (near_by tt tt tt tt))
       (step (tells 0 0 1 tt (near_by tt tt tt tt))
-      (seal (seal-call link (7 ∷ []) 0) (seals 7 0 1 (lit< tt) (lit≤ tt) (below_end tt))
+      (seal (sealing_call link (7 ∷ []) 0) (seals 7 0 1 (lit< tt) (lit≤ tt) (below_end tt))
       (step (tells 1 1 2 tt (near_by tt tt tt tt))
-      (seal (seal-call link (7 ∷ []) 1) (seals 7 1 2 (lit< tt) (lit≤ tt) (below_end tt))
+      (seal (sealing_call link (7 ∷ []) 1) (seals 7 1 2 (lit< tt) (lit≤ tt) (below_end tt))
       (step (restarts_at 2 2 1 (below_end tt))
       (step (stores 1 1 2 (near_by tt tt tt tt))
       (step (tells 1 1 2 tt (near_by tt tt tt tt))
-      (seal (seal-call link (8 ∷ []) 1) (seals 8 1 2 (lit< tt) (lit≤ tt) (below_end tt))
+      (seal (sealing_call link (8 ∷ []) 1) (seals 8 1 2 (lit< tt) (lit≤ tt) (below_end tt))
       no_more))))))))
 
   pub tells_first : TellsFirst setting
   unfolding twice_sent stores tells restarts_at with_sealed frame_sealed
   tells_first = record {
-    host = host-at 0 0 nothing_yet;
-    last = host-at 2 2 (stored-with 2);
+    host = host_at 0 0 nothing_yet;
+    last = host_at 2 2 (stored_with 2);
     zeroth = sent 7 0;
     one = sent 7 1;
     other = sent 8 1;
@@ -283,7 +283,7 @@ module _ (setting : Setting) (fits : Opens setting) where
 
   -- the frames 0 to 3 of a sender of the bench
   abbrev four : List SentFrame
-  four = sent-from link (7 ∷ []) 0 4
+  four = sent_from link (7 ∷ []) 0 4
 
   four_sent : Sends bench_sending (sender_of link 0 0) four (sender_of link 4 4)
   unfolding end
@@ -304,42 +304,42 @@ module _ (setting : Setting) (fits : Opens setting) where
 
   -- a frame is new
   opens_new : {numbering : Numbering} (n : ℕ) → T (ltb n 4) → can_arise width numbering ≡ true → InWindow width numbering.next n → is_accepted numbering n ≡ false
-      → (bench_receiving width).Opens (receiver-at numbering) (call-of n) (receiver-at (accepted width numbering n))
+      → (bench_receiving width).Opens (receiver_at numbering) (call_of n) (receiver_at (accepted width numbering n))
   unfolding end
   opens_new n below can inside anew = opens_at n can inside (omega (arith, lit< {m = n} {n = 4} below)) anew (four_octets n (lit< below))
 
   -- and a repeat
-  abbrev repeat-of : ℕ → OpenCall
-  repeat-of n = record { presented = (sent 7 n).octets; before = 0 ∷ []; refusal = 11; number = n; size = 0; after = 0 ∷ [] }
+  abbrev repeat_of : ℕ → OpenCall
+  repeat_of n = record { presented = (sent 7 n).octets; before = 0 ∷ []; refusal = 11; number = n; size = 0; after = 0 ∷ [] }
 
   opens_again : {numbering : Numbering} (n : ℕ) → T (ltb n 4) → can_arise width numbering ≡ true → InWindow width numbering.next n → is_accepted numbering n ≡ true
-      → (bench_receiving width).Opens (receiver-at numbering) (repeat-of n) (receiver-at numbering)
+      → (bench_receiving width).Opens (receiver_at numbering) (repeat_of n) (receiver_at numbering)
   unfolding receiver_can_arise end
   opens_again {numbering} n below can inside marked =
-      subst (λ (o : List ℕ). Answered (open_call width (receiver-at numbering) o (0 ∷ [])) 11 (n ∷ 0 ∷ []) (record { receiver = receiver-at numbering; output = 0 ∷ [] })) (four_octets n (lit< below))
-      (open_repeat width (lit≤ tt) (receiver-at numbering) (simp (link_good, can)) n inside (omega (arith, lit< {m = n} {n = 4} below)) (7 ∷ []) (lit≤ tt) (lit≤ tt) (0 ∷ []) marked)
+      subst (λ (o : List ℕ). Answered (open_call width (receiver_at numbering) o (0 ∷ [])) 11 (n ∷ 0 ∷ []) (record { receiver = receiver_at numbering; output = 0 ∷ [] })) (four_octets n (lit< below))
+      (open_repeat width (lit≤ tt) (receiver_at numbering) (simp (link_good, can)) n inside (omega (arith, lit< {m = n} {n = 4} below)) (7 ∷ []) (lit≤ tt) (lit≤ tt) (0 ∷ []) marked)
 
   -- the receiver when it is stored: V is 3, and 0 and 2 are marked
   abbrev stored_at : Receiver
-  stored_at = receiver-at (numbering_of 3 5)
+  stored_at = receiver_at (numbering_of 3 5)
 
-  opens_0 : (bench_receiving width).Opens receiver (call-of 0) (receiver-at (numbering_of 1 1))
+  opens_0 : (bench_receiving width).Opens receiver (call_of 0) (receiver_at (numbering_of 1 1))
   unfolding can_arise is_accepted marks_of mark accepted end
   opens_0 = opens_new {numbering = start} 0 tt refl (inside tt tt) refl
 
-  opens_2 : (bench_receiving width).Opens (receiver-at (numbering_of 1 1)) (call-of 2) stored_at
+  opens_2 : (bench_receiving width).Opens (receiver_at (numbering_of 1 1)) (call_of 2) stored_at
   unfolding can_arise is_accepted marks_of mark accepted end
   opens_2 = opens_new {numbering = numbering_of 1 1} 2 tt refl (inside tt tt) refl
 
-  opens_3 : (bench_receiving width).Opens stored_at (call-of 3) (receiver-at (numbering_of 4 11))
+  opens_3 : (bench_receiving width).Opens stored_at (call_of 3) (receiver_at (numbering_of 4 11))
   unfolding can_arise is_accepted marks_of mark accepted end
   opens_3 = opens_new {numbering = numbering_of 3 5} 3 tt refl (inside tt tt) refl
 
-  opens_1 : (bench_receiving width).Opens (receiver-at (numbering_of 4 11)) (call-of 1) (receiver-at (numbering_of 4 15))
+  opens_1 : (bench_receiving width).Opens (receiver_at (numbering_of 4 11)) (call_of 1) (receiver_at (numbering_of 4 15))
   unfolding can_arise is_accepted marks_of mark accepted end
   opens_1 = opens_new {numbering = numbering_of 4 11} 1 tt refl (inside tt tt) refl
 
-  opens_0_again : (bench_receiving width).Opens stored_at (repeat-of 0) stored_at
+  opens_0_again : (bench_receiving width).Opens stored_at (repeat_of 0) stored_at
   unfolding can_arise is_accepted marks_of mark end
   opens_0_again = opens_again {numbering = numbering_of 3 5} 0 tt refl (inside tt tt) refl
 
@@ -366,34 +366,34 @@ module _ (setting : Setting) (fits : Opens setting) where
       written_receiver = done (store_receiver_call width stored_at (replicate 33 0)) (store_receiver_0 width stored_at (replicate 33 0) stored_good (lit≤ tt))
 
   since : Since (bench_receiving width) receiver stored_at (2 ∷ 0 ∷ [])
-  since = restored (called (call-of 2) (called (call-of 0) nothing (are_octets 0 (lit< tt)) opens_0) (are_octets 2 (lit< tt)) opens_2) comes_back
+  since = restored (called (call_of 2) (called (call_of 0) nothing (are_octets 0 (lit< tt)) opens_0) (are_octets 2 (lit< tt)) opens_2) comes_back
 
-  heard_after : Events (bench_receiving width) four stored_at (receiver-at (numbering_of 4 15))
-  heard_after =
-      arrival (sent 7 0) (repeat-of 0) (one_of 0 (lit< tt)) refl (lit≤ tt) opens_0_again
-      (arrival (sent 7 3) (call-of 3) (one_of 3 (lit< tt)) refl (lit≤ tt) opens_3
-      (arrival (sent 7 1) (call-of 1) (one_of 1 (lit< tt)) refl (lit≤ tt) opens_1 no_more))
+  heard_after_lem : Events (bench_receiving width) four stored_at (receiver_at (numbering_of 4 15))
+  heard_after_lem =
+      arrival (sent 7 0) (repeat_of 0) (one_of 0 (lit< tt)) refl (lit≤ tt) opens_0_again
+      (arrival (sent 7 3) (call_of 3) (one_of 3 (lit< tt)) refl (lit≤ tt) opens_3
+      (arrival (sent 7 1) (call_of 1) (one_of 1 (lit< tt)) refl (lit≤ tt) opens_1 no_more))
 
-  after_inside : AllInWindow width heard_after
-  unfolding heard_after
+  after_inside : AllInWindow width heard_after_lem
+  unfolding heard_after_lem
   after_inside = (inside tt tt, (inside tt tt, (inside tt tt, tt)))
 
   pub handed_out_again : HandedOutAgain setting
-  unfolding heard_after ends_alike front
+  unfolding heard_after_lem ends_alike front
   handed_out_again = record {
     sender = sender_of link 0 0;
     sender_last = sender_of link 4 4;
     receiver = receiver;
     stored_at = stored_at;
-    heard = receiver-at (numbering_of 4 11);
+    heard = receiver_at (numbering_of 4 11);
     restored = stored_at;
-    last = receiver-at (numbering_of 4 15);
+    last = receiver_at (numbering_of 4 15);
     frames = four;
     three = sent 7 3;
-    once = call-of 3;
+    once = call_of 3;
     opened = ends_alike.opened;
     sends = four_sent;
-    before = arrival (sent 7 0) (call-of 0) (one_of 0 (lit< tt)) refl (lit≤ tt) opens_0 (arrival (sent 7 2) (call-of 2) (one_of 2 (lit< tt)) refl (lit≤ tt) opens_2 no_more);
+    before = arrival (sent 7 0) (call_of 0) (one_of 0 (lit< tt)) refl (lit≤ tt) opens_0 (arrival (sent 7 2) (call_of 2) (one_of 2 (lit< tt)) refl (lit≤ tt) opens_2 no_more);
     before_arrived = refl;
     three_is = refl;
     three_sent = one_of 3 (lit< tt);
@@ -402,10 +402,10 @@ module _ (setting : Setting) (fits : Opens setting) where
     once_handed_out = record { refusal_is = refl; number_is = refl; size_is = refl; output_is = refl };
     restores = comes_back;
     since = since;
-    after = heard_after;
+    after = heard_after_lem;
     after_arrived = refl;
     in_window = after_inside;
-    answered = (promise_3.kept ends_alike since four_sent heard_after after_inside).answered;
+    answered = (promise_3.kept ends_alike since four_sent heard_after_lem after_inside).answered;
   }
 
 -- ---- careful hosts of all services
@@ -426,9 +426,9 @@ module _ (key : List ℕ) (iov direction count : ℕ) (valid : is_key key ≡ tr
       let fits : Opens setting = record { a_key = valid; a_service = service; a_direction = way; iov_fits = fit } in
       let new = new_host setting fits in
       record {
-        frames = sent-from (link_with setting) (7 ∷ []) 0 count;
+        frames = sent_from (link_with setting) (7 ∷ []) 0 count;
         sealed = opened (record { new = new; under = record { key = key; yields = refl; sender_opened = new.opened } }) (seals_from setting fits 0 count nothing_yet (omega (arith, most))).sends;
-        has = λ exists. length_sent (link_with setting) (7 ∷ []) 0 count;
+        has = λ exists. length-sent (link_with setting) (7 ∷ []) 0 count;
       })
       (λ none. record { frames = []; sealed = not_opened; has = λ exists. absurd (true≢false (sym exists ∙ none)) })
 

@@ -27,7 +27,7 @@ use Rattle.promises.specs.NoInputTwice.{DifferentInputs, SealedSince, not_opened
 use Rattle.promises.proofs.Frames.{each_one, above_one}
 use Rattle.promises.proofs.BenchLaws.{bench_half}
 use Rattle.promises.proofs.HostLaws.{host_half}
-use Rattle.promises.proofs.SealingAgain.{opening_allowed, sender_opens, sent-from, sends_from, length_sent}
+use Rattle.promises.proofs.SealingAgain.{opening_allowed, sender_opens, sent_from, sends_from, length-sent}
 
 -- ---- of the formula
 
@@ -48,24 +48,24 @@ told_by_place rising (there first) (there second) same = ap suc (told_by_place r
 
 module _ (prepared-key : List ℕ) (iov direction : ℕ) where
   -- the link of a service
-  abbrev link-of : ℕ → Link
-  link-of sapi = record { key = prepared-key; iov = iov; sapi = sapi; direction = direction }
+  abbrev link_at : ℕ → Link
+  link_at sapi = record { key = prepared-key; iov = iov; sapi = sapi; direction = direction }
 
   -- what is known of a service of which a frame was sealed
   record Known (sapi : ℕ) (frames : List SentFrame) : Type 0 where
-    can_arise_lem : link_can_arise (link-of sapi) ≡ true
+    can_arise_lem : link_can_arise (link_at sapi) ≡ true
     is_service_lem : is_service sapi ≡ true
-    half : SendersHalf frame_at (link-of sapi) frames
+    half : SendersHalf frame_at (link_at sapi) frames
 
   -- of a sending end that keeps the sender's half of promise 3, and whose senders were opened on the link of their service
   module _ (sending : Sending) (Opened : ℕ → sending.State → Type 0)
-      (half : (sapi : ℕ) (state last : sending.State) (frames : List SentFrame) → Opened sapi state → Sends sending state frames last → SendersHalf frame_at (link-of sapi) frames)
-      (can : (sapi : ℕ) (state : sending.State) → Opened sapi state → link_can_arise (link-of sapi) ≡ true) where
+      (half : (sapi : ℕ) (state last : sending.State) (frames : List SentFrame) → Opened sapi state → Sends sending state frames last → SendersHalf frame_at (link_at sapi) frames)
+      (can : (sapi : ℕ) (state : sending.State) → Opened sapi state → link_can_arise (link_at sapi) ≡ true) where
     known : {sapi : ℕ} {frame : SentFrame} {frames : List SentFrame} → SealedSince sending (Opened sapi) frames → IsOneOf frame frames → Known sapi frames
     known {sapi} not_opened one = each_one (λ frame. Known sapi []) tt one
     known {sapi} {frames = frames} (opened {state} {last} is sends) one = record {
       can_arise_lem = can sapi state is;
-      is_service_lem = (link_says (link-of sapi) (can sapi state is)).0;
+      is_service_lem = (link_says (link_at sapi) (can sapi state is)).0;
       half = half sapi state last frames is sends;
     }
 
@@ -91,24 +91,24 @@ module _ (prepared-key : List ℕ) (iov direction : ℕ) where
       unfolding ciphered
       used_by one =
           ap payload_of ((known_of one).half.each_is one.frame one.one).octets_are
-          ∙ payload_of_frame_at (link-of one.sapi) one.frame.number (known_of one).can_arise_lem one.frame.payload
+          ∙ payload_of_frame_at (link_at one.sapi) one.frame.number (known_of one).can_arise_lem one.frame.payload
 
   -- a sender that was opened stands on the link of its service
   module _ {sapi : ℕ} {sender : Sender} (is : OpenedUnder prepared-key iov direction sapi sender) where
-    same_link : link_of is.key iov sapi direction ≡ link-of sapi
+    same_link : link_of is.key iov sapi direction ≡ link_at sapi
     unfolding link_of
     same_link = λ i. record { key = is.yields i; iov = iov; sapi = sapi; direction = direction }
 
-    stands_on : sender.link ≡ link-of sapi
+    stands_on : sender.link ≡ link_at sapi
     unfolding new_sender
     stands_on = ap (λ (s : Sender). s.link) (opened_sender is.key iov sapi direction is.sender_opened) ∙ same_link
 
-    link_good : link_can_arise (link-of sapi) ≡ true
+    link_good : link_can_arise (link_at sapi) ≡ true
     link_good = ap link_can_arise (sym same_link) ∙ opened_link is.key iov sapi direction (sym is.sender_opened.refusal_is)
 
   -- the senders of the bench
   bench_known : (sapi : ℕ) (sender last : Sender) (frames : List SentFrame) → OpenedUnder prepared-key iov direction sapi sender → Sends bench_sending sender frames last
-      → SendersHalf frame_at (link-of sapi) frames
+      → SendersHalf frame_at (link_at sapi) frames
   bench_known sapi sender last frames is sends = subst (λ (link : Link). SendersHalf frame_at link frames) (stands_on is) (bench_half sends)
 
   bench_same : (senders : BenchSenders prepared-key iov direction) (one other : SealedFrame senders.frames) → input_used iov one ≡ input_used iov other → SameCall one other
@@ -119,7 +119,7 @@ module _ (prepared-key : List ℕ) (iov direction : ℕ) where
 
   -- and careful hosts
   host_known : (sapi : ℕ) (host last : Host) (frames : List SentFrame) → HostUnder prepared-key iov direction sapi host → Sends careful_sending host frames last
-      → SendersHalf frame_at (link-of sapi) frames
+      → SendersHalf frame_at (link_at sapi) frames
   host_known sapi host last frames is sends = subst (λ (link : Link). SendersHalf frame_at link frames) (stands_on is.under) (host_half is.new sends)
 
   hosts_same : (senders : HostSenders prepared-key iov direction) (one other : SealedFrame senders.frames) → input_used iov one ≡ input_used iov other → SameCall one other
@@ -145,11 +145,11 @@ module _ (key : List ℕ) (iov direction count : ℕ) (valid : is_key key ≡ tr
       let allowed = opening_allowed key sapi direction valid service way in
       let link : Link = link_of key iov sapi direction in
       record {
-        frames = sent-from link (7 ∷ []) 0 count;
+        frames = sent_from link (7 ∷ []) 0 count;
         sealed =
             opened (record { key = key; yields = refl; sender_opened = sender_opens key iov sapi direction allowed })
             (sends_from link (7 ∷ []) (opened_link key iov sapi direction allowed) (lit≤ tt) (lit≤ tt) 0 count (omega (arith, most)));
-        has = λ exists. length_sent link (7 ∷ []) 0 count;
+        has = λ exists. length-sent link (7 ∷ []) 0 count;
       })
       (λ none. record { frames = []; sealed = not_opened; has = λ exists. absurd (true≢false (sym exists ∙ none)) })
 

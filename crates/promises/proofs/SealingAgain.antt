@@ -36,27 +36,27 @@ module _ (link : Link) (payload : List ℕ) where
   room_for = replicate (length payload + 6) 0
 
   -- the seal call of number n
-  abbrev pub seal-call : ℕ → SealCall
-  seal-call n = record { payload = payload; before = room_for; refusal = 0; number = n; size = length payload + 6; after = front (frame_at link n payload) room_for }
+  abbrev pub sealing_call : ℕ → SealCall
+  sealing_call n = record { payload = payload; before = room_for; refusal = 0; number = n; size = length payload + 6; after = front (frame_at link n payload) room_for }
 
   -- and the frame that it seals
-  abbrev pub sent-at : ℕ → SentFrame
-  sent-at n = record { number = n; payload = payload; octets = take (length payload + 6) (front (frame_at link n payload) room_for) }
+  abbrev pub sent_at : ℕ → SentFrame
+  sent_at n = record { number = n; payload = payload; octets = take (length payload + 6) (front (frame_at link n payload) room_for) }
 
   -- so many frames, from number n on
-  abbrev pub sent-from : ℕ → ℕ → List SentFrame
-  sent-from n zero = []
-  sent-from n (suc k) = sent-at n ∷ sent-from (suc n) k
+  abbrev pub sent_from : ℕ → ℕ → List SentFrame
+  sent_from n zero = []
+  sent_from n (suc k) = sent_at n ∷ sent_from (suc n) k
 
-  pub length_sent : (n k : ℕ) → length (sent-from n k) ≡ k
-  length_sent n zero = refl
-  length_sent n (suc k) = ap suc (length_sent (suc n) k)
+  pub length-sent : (n k : ℕ) → length (sent_from n k) ≡ k
+  length-sent n zero = refl
+  length-sent n (suc k) = ap suc (length-sent (suc n) k)
 
-  pub one_from : (n k j : ℕ) → j < k → IsOneOf (sent-at (n + j)) (sent-from n k)
+  pub one_from : (n k j : ℕ) → j < k → IsOneOf (sent_at (n + j)) (sent_from n k)
   one_from n zero j below = absurd (omega arith)
-  one_from n (suc k) zero below = subst (λ (m : ℕ). IsOneOf (sent-at m) (sent-from n (suc k))) (sym (add-zero n)) here
+  one_from n (suc k) zero below = subst (λ (m : ℕ). IsOneOf (sent_at m) (sent_from n (suc k))) (sym (add-zero n)) here
   one_from n (suc k) (suc j) below =
-      subst (λ (m : ℕ). IsOneOf (sent-at m) (sent-from n (suc k))) {x = suc n + j} (omega arith) (there (one_from (suc n) k j (omega arith)))
+      subst (λ (m : ℕ). IsOneOf (sent_at m) (sent_from n (suc k))) {x = suc n + j} (omega arith) (there (one_from (suc n) k j (omega arith)))
 
   module _ (good : link_can_arise link ≡ true) where
     -- a sender of this link with a reservation that is near
@@ -74,19 +74,19 @@ module _ (link : Link) (payload : List ℕ) where
 
     module _ (some : 1 ≤ length payload) (most : length payload ≤ 1520) where
       pub seals_one : (n reserved : ℕ) → n < reserved → reserved ≤ n + ahead → reserved ≤ end
-          → bench_sending.Seals (sender_of link n reserved) (seal-call n) (sender_of link (n + 1) reserved)
+          → bench_sending.Seals (sender_of link n reserved) (sealing_call n) (sender_of link (n + 1) reserved)
       unfolding after_frame
       seals_one n reserved below near before_end =
           done (seal_call (sender_of link n reserved) payload room_for)
           (seal_0 (sender_of link n reserved) payload room_for (good_sender n reserved (omega arith) near before_end) (omega (arith, some)) most (omega arith) below (omega (arith, length-replicate {A = ℕ} (length payload + 6) 0)))
 
       -- so many frames, each after a reservation for it alone
-      pub sends_from : (n k : ℕ) → n + k ≤ end → Sends bench_sending (sender_of link n n) (sent-from n k) (sender_of link (n + k) (n + k))
+      pub sends_from : (n k : ℕ) → n + k ≤ end → Sends bench_sending (sender_of link n n) (sent_from n k) (sender_of link (n + k) (n + k))
       unfolding with_sealed frame_sealed
       sends_from n zero below = subst (λ (last : ℕ). Sends bench_sending (sender_of link n n) [] (sender_of link last last)) (sym (add-zero n)) no_more
       sends_from n (suc k) below =
-          subst (λ (last : ℕ). Sends bench_sending (sender_of link n n) (sent-from n (suc k)) (sender_of link last last)) {x = suc n + k} (omega arith)
+          subst (λ (last : ℕ). Sends bench_sending (sender_of link n n) (sent_from n (suc k)) (sender_of link last last)) {x = suc n + k} (omega arith)
           (step (record { reserved = suc n; refusal = 0; answered = tells_one n n (suc n) (omega arith) (omega arith) (omega arith) (omega arith) })
-          (seal (seal-call n)
-          (subst (λ (next : ℕ). bench_sending.Seals (sender_of link n (suc n)) (seal-call n) (sender_of link next (suc n))) (add-one n) (seals_one n (suc n) (omega arith) (omega arith) (omega arith)))
+          (seal (sealing_call n)
+          (subst (λ (next : ℕ). bench_sending.Seals (sender_of link n (suc n)) (sealing_call n) (sender_of link next (suc n))) (add-one n) (seals_one n (suc n) (omega arith) (omega arith) (omega arith)))
           (sends_from (suc n) k (omega arith))))

@@ -101,9 +101,9 @@ abbrev pub words_from : List ℕ → ℕ → ℕ → List ℕ
 words_from octets k zero = []
 words_from octets k (suc n) = word_in octets k ∷ words_from octets (suc k) n
 
-length_words : (octets : List ℕ) (k n : ℕ) → length (words_from octets k n) ≡ n
-length_words octets k zero = refl
-length_words octets k (suc n) = ap suc (length_words octets (suc k) n)
+length-words : (octets : List ℕ) (k n : ℕ) → length (words_from octets k n) ≡ n
+length-words octets k zero = refl
+length-words octets k (suc n) = ap suc (length-words octets (suc k) n)
 
 one_and_more : (octets : List ℕ) (k : ℕ) → k < length octets → drop k octets ≡ get_or octets k 0 ∷ drop (k + 1) octets
 one_and_more octets k below = drop-cons octets k 0 below ∙ ap (λ (i : ℕ). get_or octets k 0 ∷ drop i octets) (sym (add-one k))
@@ -154,7 +154,7 @@ module _ (octets : List ℕ) (each : AreOctets octets) where
       let formed = read_formed version n octets nothing in
       let long : length octets ≡ 25 + 4 * n = formed.length-is in
       let words : List ℕ = words_from octets 0 n in
-      let count : 23 + 4 * length words ≡ get_or octets 0 0 * 256 + get_or octets 1 0 = omega (arith, length_words octets 0 n, field formed) in
+      let count : 23 + 4 * length words ≡ get_or octets 0 0 * 256 + get_or octets 1 0 = omega (arith, length-words octets 0 n, field formed) in
       let high : (23 + 4 * length words) / 256 ≡ get_or octets 0 0 = omega (arith, count, each 1) in
       let low : (23 + 4 * length words) % 256 ≡ get_or octets 1 0 = omega (arith, count, each 1) in
       let service : get_or octets 23 0 ∷ get_or octets 24 0 ∷ quads words ≡ drop 23 octets =

@@ -61,9 +61,9 @@ pub restored_receiver_form : {w : ℕ} {octets : List ℕ} {receiver : Receiver}
 unfolding receiver_form receiver_in marks_of
 restored_receiver_form {octets = octets} each restored = form_of_octets octets each 1 2 restored.formed ∙ sym (ap receiver_form restored.receiver_is)
 
-pub length_receiver_form : (receiver : Receiver) → length receiver.link.key ≡ 16 → length (receiver_form receiver) ≡ form_size 2
+pub length-receiver_form : (receiver : Receiver) → length receiver.link.key ≡ 16 → length (receiver_form receiver) ≡ form_size 2
 unfolding receiver_form
-length_receiver_form receiver sixteen = length-form 1 receiver.link (receiver.numbering.next ∷ marks_of receiver.numbering ∷ []) sixteen
+length-receiver_form receiver sixteen = length-form 1 receiver.link (receiver.numbering.next ∷ marks_of receiver.numbering ∷ []) sixteen
 
 -- from what was stored of a receiver that receiver is restored: its numbers fit their four octets
 module _ (w : ℕ) (narrow : w ≤ 32) (receiver : Receiver) (good : receiver_can_arise w receiver ≡ true) (sixteen : length receiver.link.key ≡ 16)

@@ -75,9 +75,9 @@ unfolding sender_form sender_in
 restored_sender_form {octets} each restored =
     form_of_octets octets each 1 1 restored.formed ∙ sym (ap (λ (s : Sender). sender_form s.link s.reserved) restored.sender_is)
 
-pub length_sender_form : (link : Link) (reserved : ℕ) → length link.key ≡ 16 → length (sender_form link reserved) ≡ form_size 1
+pub length-sender_form : (link : Link) (reserved : ℕ) → length link.key ≡ 16 → length (sender_form link reserved) ≡ form_size 1
 unfolding sender_form
-length_sender_form link reserved sixteen = length-form 1 link (reserved ∷ []) sixteen
+length-sender_form link reserved sixteen = length-form 1 link (reserved ∷ []) sixteen
 
 -- from what was stored of a sender on this link a sender is restored that stands at the reservation
 module _ (link : Link) (reserved : ℕ) (sixteen : length link.key ≡ 16) (offset : link.iov < 2 ^ 32) where

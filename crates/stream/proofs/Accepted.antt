@@ -11,7 +11,7 @@ use lib.Seq.{drop-drop, take_at, take-append_seam, drop-append-add, get_or-appen
 use Rattle.lines.specs.Digits.{within, all_digits, value_of}
 use Rattle.lines.proofs.Digits.{within_both, within_from, within_to, from_place, number_of_digits, number_size, number_digits}
 use Rattle.stream.specs.Form.{RequestLine, m_size, m_text, key_text, input_text, direction_text, is_request}
-use Rattle.stream.proofs.Parts.{parts_of, of_parts, length_line, length-m_text, length-key_text, length-input_text}
+use Rattle.stream.proofs.Parts.{parts_of, of_parts, length-line, length-m_text, length-key_text, length-input_text}
 
 -- ---- a line by its parts
 
@@ -50,7 +50,7 @@ unfolding m_text key_text input_text direction_text
 accepted_has_form line accepted =
     let parts = parts_of line accepted in
     record {
-      line_is = joined line (m_size line) (length_line line parts) parts.space_1 parts.space_2 parts.space_3;
+      line_is = joined line (m_size line) (length-line line parts) parts.space_1 parts.space_2 parts.space_3;
       m_digits = number_of_digits 10 4 (m_text line) (omega (arith, length-m_text line)) (omega (arith, length-m_text line)) parts.m_digits;
       m_limit = parts.m_limit;
       key_size = length-key_text line parts;
@@ -75,13 +75,13 @@ module _ (m key input : List ℕ) (direction : ℕ) (key_size : length key ≡ 3
   made : List ℕ
   made = m ++ after_m
 
-  length_made : length made ≡ length m + 44
+  length-made : length made ≡ length m + 44
   unfolding made after_m after_key after_input
-  length_made = simp (length-append, key_size, input_size)
+  length-made = simp (length-append, key_size, input_size)
 
   size_made : m_size made ≡ length m
   unfolding m_size
-  size_made = omega (arith, length_made)
+  size_made = omega (arith, length-made)
 
   -- from place n on, counted from M's end, and the octet there
   from_m : (n : ℕ) → drop (m_size made + n) made ≡ drop n after_m
@@ -142,7 +142,7 @@ module _ {line m key input : List ℕ} {direction : ℕ} (form : RequestLine lin
   form_accepted =
       let spaces = made_spaces m key input direction form.key_size form.input_size in
       let size : within 1 4 (length m) ≡ true = number_size 10 4 m form.m_digits in
-      let whole : length line ≡ length m + 44 = ap length form.line_is ∙ length_made m key input direction form.key_size form.input_size in
+      let whole : length line ≡ length m + 44 = ap length form.line_is ∙ length-made m key input direction form.key_size form.input_size in
       of_parts line
       (record {
         from = omega (arith, within_from 1 4 (length m) size);

@@ -86,9 +86,9 @@ module _ (line : List ℕ) where
 
 -- ---- what the parts are good for
 
-pub length_line : (line : List ℕ) → Parts line → length line ≡ m_size line + 44
+pub length-line : (line : List ℕ) → Parts line → length line ≡ m_size line + 44
 unfolding m_size
-length_line line parts = omega arith
+length-line line parts = omega arith
 
 length_part : (line : List ℕ) (at n : ℕ) → at + n ≤ length line → length (take n (drop at line)) ≡ n
 length_part line at n within = length-take-le n (drop at line) (simp length-drop (omega arith))
@@ -96,11 +96,11 @@ length_part line at n within = length-take-le n (drop at line) (simp length-drop
 module _ (line : List ℕ) (parts : Parts line) where
   pub length-key_text : length (key_text line) ≡ 32
   unfolding key_text
-  length-key_text = length_part line (m_size line + 1) 32 (omega (arith, length_line line parts))
+  length-key_text = length_part line (m_size line + 1) 32 (omega (arith, length-line line parts))
 
   pub length-input_text : length (input_text line) ≡ 8
   unfolding input_text
-  length-input_text = length_part line (m_size line + 34) 8 (omega (arith, length_line line parts))
+  length-input_text = length_part line (m_size line + 34) 8 (omega (arith, length-line line parts))
 
   -- the readers of numbers and of hex accept them
   pub m_read : is_number 10 10 (m_text line) ≡ true

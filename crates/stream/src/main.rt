@@ -4,7 +4,7 @@ mod form;
 mod requests;
 
 ghost use Rattle.std.specs.Prelude.{true, ◌≡◌, ◌≤◌, length};
-ghost use Rattle.lines.specs.Hearing.{heardAfter, standing};
+ghost use Rattle.lines.specs.Hearing.{heard_after, standing};
 ghost use Rattle.stream.specs.Answer.{largest_answer};
 ghost use Rattle.stream.specs.Stream.{stream_rules};
 
@@ -21,7 +21,7 @@ struct Moved {
 // Hears a piece of the input, octet by octet, and writes each answer.
 fn hear_piece(heard: Heard, piece: &[u8], output: &mut [u8]) -> Moved
     requires { largest_answer ≤ length output.old }
-    ensures { result.on ≡ true → standing result.heard ≡ heardAfter stream_rules (standing heard) piece.now }
+    ensures { result.on ≡ true → standing result.heard ≡ heard_after stream_rules (standing heard) piece.now }
 {
     let mut so_far = heard;
     let mut i = 0;

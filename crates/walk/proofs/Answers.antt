@@ -124,9 +124,9 @@ length-field : (text : List ℕ) (ends : ℕ) → length text ≤ 10 → length 
 unfolding field
 length-field text ends few = simp length-append (omega arith)
 
-pub length_sent : (sent : Sent) → length (field (sent_text sent) 32) ≤ 11
+pub length-sent : (sent : Sent) → length (field (sent_text sent) 32) ≤ 11
 unfolding sent_text
-length_sent sent = length-field (sent_text sent) 32 (length_either sent.ok _ _ 10 (length-decimal_text sent.value) (lit≤ tt))
+length-sent sent = length-field (sent_text sent) 32 (length_either sent.ok _ _ 10 (length-decimal_text sent.value) (lit≤ tt))
 
 pub length-number : (refusal number : ℕ) → length (field (number_text refusal number) 32) ≤ 11
 unfolding number_text
@@ -158,7 +158,7 @@ walk_fits state line =
     simp length-append
     (omega (
       arith,
-      length_sent (sent_of line),
+      length-sent (sent_of line),
       length-number given.refusal (get_or given.numbers 0 0),
       length_refusal given.refusal,
       length-field (decimal_text given.lent.next) 10 (length-decimal_text given.lent.next),

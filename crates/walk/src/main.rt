@@ -3,7 +3,7 @@
 mod walks;
 
 ghost use Rattle.std.specs.Prelude.{true, ◌≡◌, ◌≤◌, length};
-ghost use Rattle.lines.specs.Hearing.{heardAfter};
+ghost use Rattle.lines.specs.Hearing.{heard_after};
 ghost use Rattle.walk.specs.Walk.{room, walk_rules, standing};
 
 use libc::{STDIN_FILENO, STDOUT_FILENO};
@@ -19,7 +19,7 @@ struct Moved {
 // Hears a piece of the input, octet by octet, and writes each answer.
 fn hear_piece(walk: Walk, piece: &[u8], output: &mut [u8]) -> Moved
     requires { room ≤ length output.old }
-    ensures { result.on ≡ true → standing result.walk ≡ heardAfter walk_rules (standing walk) piece.now }
+    ensures { result.on ≡ true → standing result.walk ≡ heard_after walk_rules (standing walk) piece.now }
 {
     let mut so_far = walk;
     let mut i = 0;

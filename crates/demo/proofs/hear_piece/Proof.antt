@@ -8,7 +8,7 @@ use lib.Seq.{length-take-le}
 use mathlib.Core.Path.{◌≡◌, refl, sym, ap, subst, ◌∙◌}
 use lib.Dec.{T}
 use native.Mathlib.Omega.{arith}
-use Rattle.lines.specs.Hearing.{Standing, heardAfter}
+use Rattle.lines.specs.Hearing.{Standing, heard_after}
 use Rattle.lines.proofs.Hearing.{heard_next, heard_all}
 use Rattle.lines.proofs.Run.{then_hearing}
 use Rattle.lines.proofs.Callers.{put_within}
@@ -19,7 +19,7 @@ use Rattle.demo.proofs.hear_piece.Tie as tie
 
 abbrev invariant-loop : tie.invariant-loop
 invariant-loop play₀ piece output₀ i₀ play output i =
-    (i ≤ length piece) × (heardAfter demo_rules (standing play₀) piece ≡ heardAfter demo_rules (standing play) (drop i piece)) × (length output ≡ length output₀)
+    (i ≤ length piece) × (heard_after demo_rules (standing play₀) piece ≡ heard_after demo_rules (standing play) (drop i piece)) × (length output ≡ length output₀)
 
 abbrev decreases-loop : tie.decreases-loop
 decreases-loop play₀ piece output₀ i₀ play output i = length piece - i
@@ -68,14 +68,14 @@ loop-less c = omega arith
 loop-again : tie.Need-loop-preserved invariant-loop decreases-loop
 loop-again c =
     let at-hear = c.before.before.before.before.before in
-    let at-loop = at-hear.before.before.before.before in
-    let given = at-loop.before.before.before.args in
+    let at_loop = at-hear.before.before.before.before in
+    let given = at_loop.before.before.before.args in
     let piece = given.piece.now in
-    let i : ℕ = at-loop.loop.i in (
+    let i : ℕ = at_loop.loop.i in (
       omega arith,
-      at-loop.loop.invariant.1
-          ∙ heard_next demo_rules (standing at-loop.loop.play) piece i (omega arith)
-          ∙ ap (λ (s : Standing Stage). heardAfter demo_rules s (drop (i + 1) piece)) (sym (then_hearing demo_rules (omega (arith, at-loop.loop.invariant.2, at-loop.before.before.before.requires)) at-hear.hear.ensures)),
+      at_loop.loop.invariant.1
+          ∙ heard_next demo_rules (standing at_loop.loop.play) piece i (omega arith)
+          ∙ ap (λ (s : Standing Stage). heard_after demo_rules s (drop (i + 1) piece)) (sym (then_hearing demo_rules (omega (arith, at_loop.loop.invariant.2, at_loop.before.before.before.requires)) at-hear.hear.ensures)),
       length-kept at-hear,
     )
 
@@ -84,9 +84,9 @@ same-length-2 c = c.before.loop.invariant.2
 
 returns-2 : tie.Need-returns-2 invariant-loop decreases-loop
 returns-2 c _ =
-    let at-loop = c.before in
-    let given = at-loop.before.before.before.args in
-    sym (at-loop.loop.invariant.1 ∙ heard_all demo_rules (standing at-loop.loop.play) given.piece.now at-loop.loop.i (omega arith))
+    let at_loop = c.before in
+    let given = at_loop.before.before.before.args in
+    sym (at_loop.loop.invariant.1 ∙ heard_all demo_rules (standing at_loop.loop.play) given.piece.now at_loop.loop.i (omega arith))
 
 pub hear_piece_spec : {M : Type 1} → statement M
 hear_piece_spec =

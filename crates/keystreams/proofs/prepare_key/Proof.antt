@@ -46,9 +46,9 @@ source-requires c κs = search rules
 
 shared-slice-read-octets : tie.Need-shared-slice-read-octets invariant-loop decreases-loop
 shared-slice-read-octets c =
-    let at-loop = c.before.before.before in
-    let key : List ℕ = at-loop.before.before.before.before.args.key.now in
-    omega (arith, c.before.source.ensures, source_within key at-loop.loop.i (key_right at-loop.before) (search rules))
+    let at_loop = c.before.before.before in
+    let key : List ℕ = at_loop.before.before.before.before.args.key.now in
+    omega (arith, c.before.source.ensures, source_within key at_loop.loop.i (key_right at_loop.before) (search rules))
 
 array-write-octets : tie.Need-array-write-octets invariant-loop decreases-loop
 array-write-octets c = search rules
@@ -61,20 +61,20 @@ loop-less c = search rules
 
 loop-again : tie.Need-loop-preserved invariant-loop decreases-loop
 loop-again c =
-    let at-loop = c.before.before.before in
-    let key : List ℕ = at-loop.before.before.before.before.args.key.now in
-    (at-loop.loop.invariant.0, filled_more _ at-loop.loop.invariant.1 (omega arith) (ap (λ (k : ℕ). get_or key k 0) c.before.source.ensures))
+    let at_loop = c.before.before.before in
+    let key : List ℕ = at_loop.before.before.before.before.args.key.now in
+    (at_loop.loop.invariant.0, filled_more _ at_loop.loop.invariant.1 (omega arith) (ap (λ (k : ℕ). get_or key k 0) c.before.source.ensures))
 
 returns-2 : tie.Need-returns-2 invariant-loop decreases-loop
 unfolding first key_order
 returns-2 c =
-    let at-loop = c.before in
-    let key : List ℕ = at-loop.before.before.before.before.args.key.now in
-    let right = key_right at-loop.before in
+    let at_loop = c.before in
+    let key : List ℕ = at_loop.before.before.before.before.args.key.now in
+    let right = key_right at_loop.before in
     record {
       refusal_is = rw right;
       numbers_are = refl;
-      lent_is = filled_all _ at-loop.loop.invariant.1 (omega arith) ∙ prepared_listed key right;
+      lent_is = filled_all _ at_loop.loop.invariant.1 (omega arith) ∙ prepared_listed key right;
     }
 
 pub prepare_key_spec : {M : Type 1} → statement M

@@ -185,21 +185,21 @@ loop-again : tie.Need-loop-preserved invariant-loop decreases-loop
 unfolding blocks size
 loop-again c =
     let at_block = c.before.before.before.before in
-    let at-loop = at_block.before.before.before.before in
-    let size_is = (at_size at-loop).size.ensures in
-    let n : ℕ = at-loop.loop.n in
+    let at_loop = at_block.before.before.before.before in
+    let size_is = (at_size at_loop).size.ensures in
+    let n : ℕ = at_loop.loop.n in
     let block : ℕ = at_block.next-block.result in
-    let next = block_after (key at-loop) (a at-loop) n _ block at-loop.loop.invariant.block_is (at_block.next-block.ensures ∙ by_what_is_lent at-loop) in
+    let next = block_after (key at_loop) (a at_loop) n _ block at_loop.loop.invariant.block_is (at_block.next-block.ensures ∙ by_what_is_lent at_loop) in
     record {
       n_within = search rules;
       block_is = next;
       block_fits = omega arith;
       output_is =
-          turn (octet (stream_bit (key at-loop) (a at-loop))) (octet (bit_at 64 block)) (before at-loop) at-loop.loop.output _ (8 * n) (octets at-loop) (omega arith) (room at-loop)
-          (at-loop.loop.invariant.output_is ∙ ap (filled at-loop) (omega arith))
-          (λ j below. ap (λ (x : ℕ). octet (bit_at 64 x) j) next ∙ stream_octet (key at-loop) (a at-loop) n j below)
+          turn (octet (stream_bit (key at_loop) (a at_loop))) (octet (bit_at 64 block)) (before at_loop) at_loop.loop.output _ (8 * n) (octets at_loop) (omega arith) (room at_loop)
+          (at_loop.loop.invariant.output_is ∙ ap (filled at_loop) (omega arith))
+          (λ j below. ap (λ (x : ℕ). octet (bit_at 64 x) j) next ∙ stream_octet (key at_loop) (a at_loop) n j below)
           c.before.before.put.ensures
-          ∙ ap (filled at-loop) (omega arith);
+          ∙ ap (filled at_loop) (omega arith);
     }
 
 sub-last : tie.Need-overflow-sub-last invariant-loop decreases-loop
@@ -231,23 +231,23 @@ same_length c = length-set c.before.before.before.loop.output _ _ ∙ length-kep
 returns : tie.Need-returns invariant-loop decreases-loop
 unfolding size Kgcore.key_bit blocks
 returns c =
-    let at-loop = c.before.before.before in
-    let size_is = (at_size at-loop).size.ensures in
-    let asked = some at-loop in
-    let cl : ℕ = (start at-loop).args.cl in
-    let bit : ℕ → ℕ = stream_bit (key at-loop) (a at-loop) in
-    let last : ℕ = octets at-loop - 1 in
+    let at_loop = c.before.before.before in
+    let size_is = (at_size at_loop).size.ensures in
+    let asked = some at_loop in
+    let cl : ℕ = (start at_loop).args.cl in
+    let bit : ℕ → ℕ = stream_bit (key at_loop) (a at_loop) in
+    let last : ℕ = octets at_loop - 1 in
     let x : ℕ = c.first-bits.result in
-    let whole : at-loop.loop.output ≡ filled at-loop (octets at-loop) = at-loop.loop.invariant.output_is ∙ ap (filled at-loop) (omega arith) in
+    let whole : at_loop.loop.output ≡ filled at_loop (octets at_loop) = at_loop.loop.invariant.output_is ∙ ap (filled at_loop) (omega arith) in
     ap (λ (l : List ℕ). set l last x) whole
-    ∙ stored_cleared bit cl (octets at-loop) x (drop (octets at-loop) (before at-loop)) (λ i. bit_at_lt 64 _ _) (omega arith) (omega arith)
+    ∙ stored_cleared bit cl (octets at_loop) x (drop (octets at_loop) (before at_loop)) (λ i. bit_at_lt 64 _ _) (omega arith) (omega arith)
     (c.first-bits.ensures
     ∙ ap₂ (λ (y n : ℕ). octet (part (bit_at 8 y) 0 n) 0)
-    (ap (λ (l : List ℕ). get_or l last 0) whole ∙ get_or-listed_front (octet bit) _ (octets at-loop) last 0 (omega arith))
+    (ap (λ (l : List ℕ). get_or l last 0) whole ∙ get_or-listed_front (octet bit) _ (octets at_loop) last 0 (omega arith))
     (omega arith))
-    ∙ ap₂ (λ (r k : ℕ). stored (stream_bit (key at-loop) r) 0 cl ++ drop k (before at-loop))
-    (register_is at-loop)
-    (at_size at-loop).size.ensures
+    ∙ ap₂ (λ (r k : ℕ). stored (stream_bit (key at_loop) r) 0 cl ++ drop k (before at_loop))
+    (register_is at_loop)
+    (at_size at_loop).size.ensures
 
 pub generate_spec : {M : Type 1} → statement M
 generate_spec =

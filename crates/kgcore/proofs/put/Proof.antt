@@ -65,15 +65,15 @@ loop-less c = search rules
 
 loop-again : tie.Need-loop-preserved invariant-loop decreases-loop
 loop-again c =
-    let at-loop = c.before.before in
-    let given = at-loop.before.args in
-    let j : ℕ = at-loop.loop.j in
-    let room : j < length given.output.now = omega (arith, ltb-true, length-kept at-loop) in
+    let at_loop = c.before.before in
+    let given = at_loop.before.args in
+    let j : ℕ = at_loop.loop.j in
+    let room : j < length given.output.now = omega (arith, ltb-true, length-kept at_loop) in
     record {
       eight_most = omega arith;
       within = omega arith;
       output_is =
-          ap₂ (λ (l : List ℕ) (x : ℕ). set l j x) at-loop.loop.invariant.output_is (block_octet given.block j (omega arith))
+          ap₂ (λ (l : List ℕ) (x : ℕ). set l j x) at_loop.loop.invariant.output_is (block_octet given.block j (omega arith))
           ∙ listed_store (octet (bit_at 64 given.block)) given.output.now j room;
     }
 

@@ -30,9 +30,9 @@ cast-if1 c = search rules
 
 returns : tie.Need-returns invariant-loop decreases-loop
 returns c =
-    let at-loop = c.before.before.before.before in
-    let given = at-loop.before.before.args in
-    sym (at-loop.loop.invariant.1 ∙ digit_fails given.base given.text.now at-loop.loop.i (omega arith) (omega arith))
+    let at_loop = c.before.before.before.before in
+    let given = at_loop.before.before.args in
+    sym (at_loop.loop.invariant.1 ∙ digit_fails given.base given.text.now at_loop.loop.i (omega arith) (omega arith))
 
 add-i : tie.Need-overflow-add-i invariant-loop decreases-loop
 add-i c = omega arith
@@ -42,15 +42,15 @@ loop-less c = omega arith
 
 loop-again : tie.Need-loop-preserved invariant-loop decreases-loop
 loop-again c =
-    let at-loop = c.before.before.before.before in
-    let given = at-loop.before.before.args in
-    (omega arith, at-loop.loop.invariant.1 ∙ digit_passes given.base given.text.now at-loop.loop.i (omega arith) (omega arith))
+    let at_loop = c.before.before.before.before in
+    let given = at_loop.before.before.args in
+    (omega arith, at_loop.loop.invariant.1 ∙ digit_passes given.base given.text.now at_loop.loop.i (omega arith) (omega arith))
 
 returns-2 : tie.Need-returns-2 invariant-loop decreases-loop
 returns-2 c =
-    let at-loop = c.before in
-    let given = at-loop.before.before.args in
-    sym (at-loop.loop.invariant.1 ∙ digits_end given.base given.text.now at-loop.loop.i (omega arith))
+    let at_loop = c.before in
+    let given = at_loop.before.before.args in
+    sym (at_loop.loop.invariant.1 ∙ digits_end given.base given.text.now at_loop.loop.i (omega arith))
 
 pub all_digits_spec : {M : Type 1} → statement M
 all_digits_spec =

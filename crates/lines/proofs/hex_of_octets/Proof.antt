@@ -71,13 +71,13 @@ loop-less c = omega arith
 
 loop-again : tie.Need-loop-preserved invariant-loop decreases-loop
 loop-again c =
-    let at-loop = c.before.before.before.before.before in
-    let given = at-loop.before.before.before.before.args in
+    let at_loop = c.before.before.before.before.before in
+    let given = at_loop.before.before.before.before.args in
     let octets = given.octets.now in
     let before = given.output.now in
-    let k : ℕ = at-loop.loop.k in (
+    let k : ℕ = at_loop.loop.k in (
       omega arith,
-      ap (λ (l : List ℕ). set (set l (2 * k) c.before.before.glyph.result) (2 * k + 1) c.glyph2.result) at-loop.loop.invariant.1
+      ap (λ (l : List ℕ). set (set l (2 * k) c.before.before.glyph.result) (2 * k + 1) c.glyph2.result) at_loop.loop.invariant.1
           ∙ ap₂ (λ (a b : ℕ). set (set (hex_text (take k octets) ++ drop (2 * k) before) (2 * k) a) (2 * k + 1) b) c.before.before.glyph.ensures c.glyph2.ensures
           ∙ hex_turn octets before k (omega arith) (omega arith),
     )
@@ -87,13 +87,13 @@ same_length c = length-kept c.before
 
 returns-2 : tie.Need-returns-2 invariant-loop decreases-loop
 returns-2 c =
-    let at-loop = c.before in
-    let given = at-loop.before.before.before.before.args in
+    let at_loop = c.before in
+    let given = at_loop.before.before.before.before.args in
     let octets = given.octets.now in
     put_fits _ _ (omega (arith, length-hex_text octets))
     (record {
       written_is = sym (length-hex_text octets);
-      output_is = at-loop.loop.invariant.1 ∙ hex_put octets given.output.now at-loop.loop.k (omega arith);
+      output_is = at_loop.loop.invariant.1 ∙ hex_put octets given.output.now at_loop.loop.k (omega arith);
     })
 
 pub hex_of_octets_spec : {M : Type 1} → statement M

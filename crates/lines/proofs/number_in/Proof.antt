@@ -87,29 +87,29 @@ loop-less c = omega arith
 
 loop-again : tie.Need-loop-preserved invariant-loop decreases-loop
 loop-again c =
-    let at-loop = c.before.before.before in
-    let given = at-loop.before.before.before.before.before.before.args in
+    let at_loop = c.before.before.before in
+    let given = at_loop.before.before.before.before.before.before.args in
     let text = given.text.now in
-    let value : ℕ = at-loop.loop.value in
-    let i : ℕ = at-loop.loop.i in (
+    let value : ℕ = at_loop.loop.value in
+    let i : ℕ = at_loop.loop.i in (
       omega arith,
       ap (λ (next : ℕ). value_from given.base (value * given.base + next) (drop (i + 1) text)) c.digit.ensures
           ∙ sym (number_step given.base value text i (omega arith))
-          ∙ at-loop.loop.invariant.1,
-      one_digit_more given.base value c.digit.result i at-loop.loop.invariant.2
-          (omega (arith, digit_below given.base text i (omega arith) (are_digits at-loop.before))),
+          ∙ at_loop.loop.invariant.1,
+      one_digit_more given.base value c.digit.result i at_loop.loop.invariant.2
+          (omega (arith, digit_below given.base text i (omega arith) (are_digits at_loop.before))),
     )
 
 returns-4 : tie.Need-returns-4 invariant-loop decreases-loop
 unfolding first digits_order is_number
 returns-4 c =
-    let at-loop = c.before in
-    let given = at-loop.before.before.before.before.before.before.args in
+    let at_loop = c.before in
+    let given = at_loop.before.before.before.before.before.before.args in
     let text = given.text.now in
     record {
-      refusal_is = rw (within_both 1 given.most (length text) (omega arith) (omega arith), are_digits at-loop.before);
+      refusal_is = rw (within_both 1 given.most (length text) (omega arith) (omega arith), are_digits at_loop.before);
       numbers_are =
-          ap (λ (n : ℕ). n ∷ []) (sym (number_end given.base at-loop.loop.value text at-loop.loop.i (omega arith)) ∙ at-loop.loop.invariant.1);
+          ap (λ (n : ℕ). n ∷ []) (sym (number_end given.base at_loop.loop.value text at_loop.loop.i (omega arith)) ∙ at_loop.loop.invariant.1);
       lent_is = refl;
     }
 

@@ -121,13 +121,13 @@ loop-less c = omega arith
 
 loop-again : tie.Need-loop-preserved invariant-loop decreases-loop
 loop-again c =
-    let at-loop = c.before.before.before.before.before in
-    let given = at-loop.before.before.before.before.before.before.before.args in
+    let at_loop = c.before.before.before.before.before in
+    let given = at_loop.before.before.before.before.before.before.before.args in
     let text = given.text.now in
     let before = given.output.now in
-    let k : ℕ = at-loop.loop.k in (
+    let k : ℕ = at_loop.loop.k in (
       omega arith,
-      ap (λ (l : List ℕ). set l k (c.before.before.digit.result * 16 + c.digit2.result)) at-loop.loop.invariant.1
+      ap (λ (l : List ℕ). set l k (c.before.before.digit.result * 16 + c.digit2.result)) at_loop.loop.invariant.1
           ∙ ap₂ (λ (high low : ℕ). set (hex_octets (take (2 * k) text) ++ drop k before) k (high * 16 + low)) c.before.before.digit.ensures c.digit2.ensures
           ∙ octets_turn text before k (omega arith) (omega arith),
     )
@@ -137,14 +137,14 @@ same_length c = length-kept c.before
 
 returns-4 : tie.Need-returns-4 invariant-loop decreases-loop
 returns-4 c =
-    let at-loop = c.before in
-    let given = at-loop.before.before.before.before.before.before.before.args in
+    let at_loop = c.before in
+    let given = at_loop.before.before.before.before.before.before.before.args in
     let text = given.text.now in
     let before = given.output.now in
-    put (hex_good text before (are_hex at-loop.before.before) ∙ room_enough (length (hex_octets text)) before (omega (arith, length-hex_octets text)))
+    put (hex_good text before (are_hex at_loop.before.before) ∙ room_enough (length (hex_octets text)) before (omega (arith, length-hex_octets text)))
     (record {
       written_is = sym (length-hex_octets text);
-      output_is = at-loop.loop.invariant.1 ∙ octets_put text before at-loop.loop.k (omega arith);
+      output_is = at_loop.loop.invariant.1 ∙ octets_put text before at_loop.loop.k (omega arith);
     })
 
 pub octets_of_hex_spec : {M : Type 1} → statement M

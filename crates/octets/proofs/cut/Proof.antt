@@ -91,15 +91,15 @@ loop-less c = search rules
 
 loop-again : tie.Need-loop-preserved invariant-loop decreases-loop
 loop-again c =
-    let at-loop = c.before.before.before in
-    let given = at-loop.before.before.before.before.before.args in
+    let at_loop = c.before.before.before in
+    let given = at_loop.before.before.before.before.before.args in
     let source : List ℕ = given.source.now in
-    let k : ℕ = at-loop.loop.k in
+    let k : ℕ = at_loop.loop.k in
     record {
       within = omega arith;
       output_is =
           ap₂ (λ (l : List ℕ) (x : ℕ). set l k x)
-          at-loop.loop.invariant.output_is
+          at_loop.loop.invariant.output_is
           (turn source given.start given.count k _ _ c.before.eight-bits.ensures c.first-bits.ensures)
           ∙ listed_store (asked source given.start given.count) given.output.now k (omega arith);
     }
@@ -110,13 +110,13 @@ same_length c = length-kept c.before
 returns-2 : tie.Need-returns-2 invariant-loop decreases-loop
 unfolding first cut_order stored
 returns-2 c =
-    let at-loop = c.before in
-    let given = at-loop.before.before.before.before.before.args in
+    let at_loop = c.before in
+    let given = at_loop.before.before.before.before.before.args in
     record {
       refusal_is = rw (le-ltb (length given.output.now) (size given.count) (omega arith));
       numbers_are = refl;
       lent_is =
-          at-loop.loop.invariant.output_is
+          at_loop.loop.invariant.output_is
           ∙ ap (λ (k : ℕ). listed (asked given.source.now given.start given.count) k ++ drop k given.output.now) (omega arith)
           ∙ sym (front_stored (bit_of given.source.now) given.start given.count given.output.now);
     }

@@ -65,16 +65,16 @@ loop-less c = search rules
 
 loop-again : tie.Need-loop-preserved invariant-loop decreases-loop
 loop-again c =
-    let at-loop = c.before.before.before in
-    let given = at-loop.before.before.before.before.before.args in
+    let at_loop = c.before.before.before in
+    let given = at_loop.before.before.before.before.before.args in
     let source : List ℕ = given.source.now in
     let stream : List ℕ = given.stream.now in
-    let i : ℕ = at-loop.loop.i in
+    let i : ℕ = at_loop.loop.i in
     let room : i < length given.output.now = omega arith in
     record {
       within = omega arith;
       output_is =
-          ap₂ (λ (l : List ℕ) (x : ℕ). set l i (bit_xor (get_or source i 0) x)) at-loop.loop.invariant.output_is c.octet-or-zero.ensures
+          ap₂ (λ (l : List ℕ) (x : ℕ). set l i (bit_xor (get_or source i 0) x)) at_loop.loop.invariant.output_is c.octet-or-zero.ensures
           ∙ listed_store (at source stream) given.output.now i room;
     }
 
@@ -84,8 +84,8 @@ same_length c = length-kept c.before
 returns-2 : tie.Need-returns-2 invariant-loop decreases-loop
 unfolding first xor_order xored front
 returns-2 c =
-    let at-loop = c.before in
-    let given = at-loop.before.before.before.before.before.args in
+    let at_loop = c.before in
+    let given = at_loop.before.before.before.before.before.args in
     let source : List ℕ = given.source.now in
     let stream : List ℕ = given.stream.now in
     let before : List ℕ = given.output.now in
@@ -93,7 +93,7 @@ returns-2 c =
       refusal_is = rw (le-ltb (length before) (length source) (omega arith));
       numbers_are = refl;
       lent_is =
-          at-loop.loop.invariant.output_is
+          at_loop.loop.invariant.output_is
           ∙ ap (λ (i : ℕ). listed (at source stream) i ++ drop i before) {y = length source} (omega arith)
           ∙ ap (λ (n : ℕ). listed (at source stream) (length source) ++ drop n before) (sym (length-xored source stream));
     }

@@ -40,8 +40,8 @@ loop-less c = search rules
 
 loop-again : tie.Need-loop-preserved invariant-loop decreases-loop
 loop-again c =
-    let at-loop = c.before.before.before in
-    (omega arith, counted (twice at-loop.loop.k) c.put-row.ensures)
+    let at_loop = c.before.before.before in
+    (omega arith, counted (twice at_loop.loop.k) c.put-row.ensures)
 
 returns : tie.Need-returns invariant-loop decreases-loop
 returns c = counted (ap (λ (n : ℕ). 2 ^ n) {y = 9} (omega arith)) c.before.loop.invariant.1

@@ -103,18 +103,18 @@ loop-less c = search rules
 
 loop-again : tie.Need-loop-preserved invariant-loop decreases-loop
 loop-again c =
-    let at-loop = c.before.before.before.before in
-    let at_low = at-loop.before.before.before.before.before in
+    let at_loop = c.before.before.before.before in
+    let at_low = at_loop.before.before.before.before.before in
     let start = at_low.before.before in
-    let i : ℕ = at-loop.loop.i in
-    let filled = at-loop.loop.invariant.1.1 in (
+    let i : ℕ = at_loop.loop.i in
+    let filled = at_loop.loop.invariant.1.1 in (
       omega arith,
       (
-        at-loop.loop.invariant.1.0,
+        at_loop.loop.invariant.1.0,
         counted {n = at_low.before.power.result + at_low.power2.result + i + 1} (omega arith)
             (one_more filled _ (omega arith)
             (next_entry start.args.k start.args.j i start.requires.1.0 start.requires.0 (omega arith) at_low.before.power.ensures at_low.power2.ensures
-            at-loop.before.before.before.before.entry_of_nine_lem.ensures
+            at_loop.before.before.before.before.entry_of_nine_lem.ensures
             (counted (omega (arith, at_low.power2.ensures, at_low.before.power.ensures)) start.requires.1.1)
             filled)),
       ),
@@ -122,9 +122,9 @@ loop-again c =
 
 returns : tie.Need-returns invariant-loop decreases-loop
 returns c =
-    let at-loop = c.before in
-    let at_low = at-loop.before.before.before.before.before in
-    counted (omega (arith, at_low.power2.ensures, at_low.before.power.ensures)) at-loop.loop.invariant.1.1
+    let at_loop = c.before in
+    let at_low = at_loop.before.before.before.before.before in
+    counted (omega (arith, at_low.power2.ensures, at_low.before.power.ensures)) at_loop.loop.invariant.1.1
 
 pub put_pair_spec : {M : Type 1} → statement M
 put_pair_spec =

@@ -47,8 +47,8 @@ loop-holds c =
 
 put-pair-requires : tie.Need-put-pair-requires invariant-loop decreases-loop
 put-pair-requires c κs =
-    let at-loop = c.before.before in
-    (omega arith, (at-loop.before.before.before.requires.0, at-loop.loop.invariant.1))
+    let at_loop = c.before.before in
+    (omega arith, (at_loop.before.before.before.requires.0, at_loop.loop.invariant.1))
 
 add-j : tie.Need-overflow-add-j invariant-loop decreases-loop
 add-j c = search rules
@@ -58,14 +58,14 @@ loop-less c = search rules
 
 loop-again : tie.Need-loop-preserved invariant-loop decreases-loop
 loop-again c =
-    let at-loop = c.before.before.before in
-    (omega arith, counted (ap (λ (n : ℕ). 2 ^ at-loop.before.before.before.args.k + n) (twice at-loop.loop.j)) c.put-pair.ensures)
+    let at_loop = c.before.before.before in
+    (omega arith, counted (ap (λ (n : ℕ). 2 ^ at_loop.before.before.before.args.k + n) (twice at_loop.loop.j)) c.put-pair.ensures)
 
 returns : tie.Need-returns invariant-loop decreases-loop
 returns c =
-    let at-loop = c.before in
-    let k : ℕ = at-loop.before.before.before.args.k in
-    counted (ap (λ (n : ℕ). 2 ^ k + 2 ^ n) {y = k} (omega arith)) at-loop.loop.invariant.1
+    let at_loop = c.before in
+    let k : ℕ = at_loop.before.before.before.args.k in
+    counted (ap (λ (n : ℕ). 2 ^ k + 2 ^ n) {y = k} (omega arith)) at_loop.loop.invariant.1
 
 pub put_row_spec : {M : Type 1} → statement M
 put_row_spec =

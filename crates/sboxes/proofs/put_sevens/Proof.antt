@@ -78,13 +78,13 @@ loop-less c = search rules
 
 loop-again : tie.Need-loop-preserved invariant-loop decreases-loop
 loop-again c =
-    let at-loop = c.before.before.before in
-    let b : ℕ = at-loop.loop.b in (
+    let at_loop = c.before.before.before in
+    let b : ℕ = at_loop.loop.b in (
       omega arith,
       (
-        ap (set at-loop.loop.table (512 + b)) c.entry_of_seven_lem.ensures
-            ∙ one_more at-loop.before.before.args.table.now at-loop.loop.table b at-loop.before.before.requires (omega arith) at-loop.loop.invariant.1.0,
-        at-loop.loop.invariant.1.1,
+        ap (set at_loop.loop.table (512 + b)) c.entry_of_seven_lem.ensures
+            ∙ one_more at_loop.before.before.args.table.now at_loop.loop.table b at_loop.before.before.requires (omega arith) at_loop.loop.invariant.1.0,
+        at_loop.loop.invariant.1.1,
       ),
     )
 

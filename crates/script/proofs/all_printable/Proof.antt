@@ -24,16 +24,16 @@ shared-slice-read-if1 c = omega arith
 
 returns : tie.Need-returns invariant-loop decreases-loop
 returns c =
-    let at-loop = c.before.before.before in
-    sym (at-loop.loop.invariant.1 ∙ printable_low at-loop.before.args.text.now at-loop.loop.i (omega arith) c.if1.true)
+    let at_loop = c.before.before.before in
+    sym (at_loop.loop.invariant.1 ∙ printable_low at_loop.before.args.text.now at_loop.loop.i (omega arith) c.if1.true)
 
 shared-slice-read-if2 : tie.Need-shared-slice-read-if2 invariant-loop decreases-loop
 shared-slice-read-if2 c = omega arith
 
 returns-2 : tie.Need-returns-2 invariant-loop decreases-loop
 returns-2 c =
-    let at-loop = c.before.before.before.before.before in
-    sym (at-loop.loop.invariant.1 ∙ printable_high at-loop.before.args.text.now at-loop.loop.i (omega arith) c.if2.true)
+    let at_loop = c.before.before.before.before.before in
+    sym (at_loop.loop.invariant.1 ∙ printable_high at_loop.before.args.text.now at_loop.loop.i (omega arith) c.if2.true)
 
 add-i : tie.Need-overflow-add-i invariant-loop decreases-loop
 add-i c = omega arith
@@ -43,13 +43,13 @@ loop-less c = omega arith
 
 loop-again : tie.Need-loop-preserved invariant-loop decreases-loop
 loop-again c =
-    let at-loop = c.before.before.before.before.before in
-    (omega arith, at-loop.loop.invariant.1 ∙ printable_passes at-loop.before.args.text.now at-loop.loop.i (omega arith) c.before.before.if1.false c.if2.false)
+    let at_loop = c.before.before.before.before.before in
+    (omega arith, at_loop.loop.invariant.1 ∙ printable_passes at_loop.before.args.text.now at_loop.loop.i (omega arith) c.before.before.if1.false c.if2.false)
 
 returns-3 : tie.Need-returns-3 invariant-loop decreases-loop
 returns-3 c =
-    let at-loop = c.before in
-    sym (at-loop.loop.invariant.1 ∙ printable_end at-loop.before.args.text.now at-loop.loop.i (omega arith))
+    let at_loop = c.before in
+    sym (at_loop.loop.invariant.1 ∙ printable_end at_loop.before.args.text.now at_loop.loop.i (omega arith))
 
 pub all_printable_spec : {M : Type 1} → statement M
 all_printable_spec =

@@ -55,14 +55,14 @@ loop-less c = search rules
 
 loop-again : tie.Need-loop-preserved invariant-loop decreases-loop
 loop-again c =
-    let at-loop = c.before.before in
-    let given = at-loop.before.before.before.args in
+    let at_loop = c.before.before in
+    let given = at_loop.before.before.before.args in
     let octets : List ℕ = form 1 given.link given.words.now in
-    let k : ℕ = at-loop.loop.k in
+    let k : ℕ = at_loop.loop.k in
     record {
       within = omega arith;
       output_is =
-          ap₂ (λ (l : List ℕ) (x : ℕ). set l k x) at-loop.loop.invariant.output_is c.octet_at.ensures
+          ap₂ (λ (l : List ℕ) (x : ℕ). set l k x) at_loop.loop.invariant.output_is c.octet_at.ensures
           ∙ listed_store (λ i. get_or octets i 0) given.output.now k (omega arith);
     }
 
@@ -72,11 +72,11 @@ same_length c = length-kept c.before
 returns : tie.Need-returns invariant-loop decreases-loop
 unfolding front
 returns c =
-    let at-loop = c.before in
-    let given = at-loop.before.before.before.args in
+    let at_loop = c.before in
+    let given = at_loop.before.before.before.args in
     let octets : List ℕ = form 1 given.link given.words.now in
     let long : length octets ≡ 25 + 4 * length given.words.now = length-form 1 given.link given.words.now (search rules) in
-    at-loop.loop.invariant.output_is
+    at_loop.loop.invariant.output_is
     ∙ ap (λ (k : ℕ). listed (λ i. get_or octets i 0) k ++ drop k given.output.now) {y = length octets} (omega arith)
     ∙ ap (λ (l : List ℕ). l ++ drop (length octets) given.output.now) (listed_self octets)
 

@@ -8,7 +8,7 @@ use lib.Seq.{length-take-le}
 use mathlib.Core.Path.{◌≡◌, refl, sym, ap, subst, ◌∙◌}
 use lib.Dec.{T}
 use native.Mathlib.Omega.{arith}
-use Rattle.lines.specs.Hearing.{Standing, heardAfter, standing}
+use Rattle.lines.specs.Hearing.{Standing, heard_after, standing}
 use Rattle.lines.proofs.Hearing.{heard_next, heard_all}
 use Rattle.lines.proofs.Run.{then_hearing}
 use Rattle.lines.proofs.Callers.{put_within}
@@ -18,7 +18,7 @@ use Rattle.stream.proofs.hear_piece.Tie as tie
 
 abbrev invariant-loop : tie.invariant-loop
 invariant-loop piece output₀ so-far₀ i₀ output so_far i =
-    (i ≤ length piece) × (heardAfter stream_rules (standing so-far₀) piece ≡ heardAfter stream_rules (standing so_far) (drop i piece)) × (length output ≡ length output₀)
+    (i ≤ length piece) × (heard_after stream_rules (standing so-far₀) piece ≡ heard_after stream_rules (standing so_far) (drop i piece)) × (length output ≡ length output₀)
 
 abbrev decreases-loop : tie.decreases-loop
 decreases-loop piece output₀ so-far₀ i₀ output so_far i = length piece - i
@@ -67,14 +67,14 @@ loop-less c = omega arith
 loop-again : tie.Need-loop-preserved invariant-loop decreases-loop
 loop-again c =
     let at-hear = c.before.before.before.before.before.before in
-    let at-loop = at-hear.before.before.before.before in
-    let given = at-loop.before.before.before.args in
+    let at_loop = at-hear.before.before.before.before in
+    let given = at_loop.before.before.before.args in
     let piece = given.piece.now in
-    let i : ℕ = at-loop.loop.i in (
+    let i : ℕ = at_loop.loop.i in (
       omega arith,
-      at-loop.loop.invariant.1
-          ∙ heard_next stream_rules (standing at-loop.loop.so_far) piece i (omega arith)
-          ∙ ap (λ (s : Standing (Unit {0})). heardAfter stream_rules s (drop (i + 1) piece)) (sym (then_hearing stream_rules (omega (arith, at-loop.loop.invariant.2, at-loop.before.before.before.requires)) at-hear.hear.ensures)),
+      at_loop.loop.invariant.1
+          ∙ heard_next stream_rules (standing at_loop.loop.so_far) piece i (omega arith)
+          ∙ ap (λ (s : Standing (Unit {0})). heard_after stream_rules s (drop (i + 1) piece)) (sym (then_hearing stream_rules (omega (arith, at_loop.loop.invariant.2, at_loop.before.before.before.requires)) at-hear.hear.ensures)),
       length-kept at-hear,
     )
 
@@ -83,9 +83,9 @@ same-length-2 c = c.before.loop.invariant.2
 
 returns-2 : tie.Need-returns-2 invariant-loop decreases-loop
 returns-2 c _ =
-    let at-loop = c.before in
-    let given = at-loop.before.before.before.args in
-    sym (at-loop.loop.invariant.1 ∙ heard_all stream_rules (standing at-loop.loop.so_far) given.piece.now at-loop.loop.i (omega arith))
+    let at_loop = c.before in
+    let given = at_loop.before.before.before.args in
+    sym (at_loop.loop.invariant.1 ∙ heard_all stream_rules (standing at_loop.loop.so_far) given.piece.now at_loop.loop.i (omega arith))
 
 pub hear_piece_spec : {M : Type 1} → statement M
 hear_piece_spec =

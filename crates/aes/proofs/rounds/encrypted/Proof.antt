@@ -41,12 +41,12 @@ loop-less c = omega arith
 
 loop-again : tie.Need-loop-preserved invariant-loop decreases-loop
 loop-again c =
-    let at-loop = c.before.before.before in
-    let given = at-loop.before.before.before.before.args in
+    let at_loop = c.before.before.before in
+    let given = at_loop.before.before.before.before.args in
     let words : List ℕ = given.words.now in
     let block : List ℕ = given.block.now in
-    let n : ℕ = at-loop.loop.n in
-    let inv = at-loop.loop.invariant in
+    let n : ℕ = at_loop.loop.n in
+    let inv = at_loop.loop.invariant in
     let next : n ≡ n + 1 - 1 = omega arith in (
       omega arith,
       (
@@ -54,7 +54,7 @@ loop-again c =
         (
           inv.1.1.0,
           c.round.ensures
-              ∙ one_round_more words block inv.1.1.0 n at-loop.loop.x inv.0 inv.1.1.1
+              ∙ one_round_more words block inv.1.1.0 n at_loop.loop.x inv.0 inv.1.1.1
               ∙ ap (λ (k : ℕ). columns_of (rounds words k (state_of block))) next,
         ),
       ),
@@ -69,15 +69,15 @@ block-of-requires c κs = search rules
 returns : tie.Need-returns invariant-loop decreases-loop
 returns c =
     let at_last = c.before in
-    let at-loop = at_last.before.before.before in
-    let given = at-loop.before.before.before.before.args in
+    let at_loop = at_last.before.before.before in
+    let given = at_loop.before.before.before.before.args in
     let words : List ℕ = given.words.now in
     let block : List ℕ = given.block.now in
-    let inv = at-loop.loop.invariant in
-    let nine : at-loop.loop.n - 1 ≡ 9 = omega arith in
+    let inv = at_loop.loop.invariant in
+    let nine : at_loop.loop.n - 1 ≡ 9 = omega arith in
     c.Block-of.ensures
     ∙ ap (λ (y : Columns). block_of (held y)) at_last.last-round.ensures
-    ∙ block_encrypted words block inv.1.1.0 at-loop.loop.x (inv.1.1.1 ∙ ap (λ (k : ℕ). columns_of (rounds words k (state_of block))) nine)
+    ∙ block_encrypted words block inv.1.1.0 at_loop.loop.x (inv.1.1.1 ∙ ap (λ (k : ℕ). columns_of (rounds words k (state_of block))) nine)
 
 pub encrypted_spec : {M : Type 1} → statement M
 encrypted_spec =

@@ -45,14 +45,14 @@ loop-less c = omega arith
 
 loop-again : tie.Need-loop-preserved invariant-loop decreases-loop
 loop-again c =
-    let at-loop = c.before.before.before.before in
-    let key : List ℕ = at-loop.before.before.before.args.key.now in
-    let words : List ℕ = at-loop.loop.words in
-    let i : ℕ = at-loop.loop.i in
+    let at_loop = c.before.before.before.before in
+    let key : List ℕ = at_loop.before.before.before.args.key.now in
+    let words : List ℕ = at_loop.loop.words in
+    let i : ℕ = at_loop.loop.i in
     let put : set words i c.next_word.result ≡ expanded key (i + 1) ++ drop (i + 1) (replicate 44 0) =
-    word_put key (replicate 44 0) words i c.next_word.result (omega arith) at-loop.loop.invariant.1.0 c.next_word.ensures in
+    word_put key (replicate 44 0) words i c.next_word.result (omega arith) at_loop.loop.invariant.1.0 c.next_word.ensures in
     let long : length words ≡ 44 =
-    ap length at-loop.loop.invariant.1.0 ∙ length_front (expanded key i) (replicate 44 0) i (length-expanded key i) (omega arith) in
+    ap length at_loop.loop.invariant.1.0 ∙ length_front (expanded key i) (replicate 44 0) i (length-expanded key i) (omega arith) in
     let last : i + 1 - 1 ≡ i = omega arith in (
       omega arith,
       (
@@ -63,10 +63,10 @@ loop-again c =
 
 returns : tie.Need-returns invariant-loop decreases-loop
 returns c =
-    let at-loop = c.before in
-    let key : List ℕ = at-loop.before.before.before.args.key.now in
-    let all : at-loop.loop.i ≡ 44 = omega arith in
-    at-loop.loop.invariant.1.0 ∙ ap (λ (i : ℕ). expanded key i ++ drop i (replicate 44 0)) all ∙ append-nil (expanded key 44)
+    let at_loop = c.before in
+    let key : List ℕ = at_loop.before.before.before.args.key.now in
+    let all : at_loop.loop.i ≡ 44 = omega arith in
+    at_loop.loop.invariant.1.0 ∙ ap (λ (i : ℕ). expanded key i ++ drop i (replicate 44 0)) all ∙ append-nil (expanded key 44)
 
 pub expanded_spec : {M : Type 1} → statement M
 expanded_spec =

@@ -35,18 +35,18 @@ loop-less c = omega arith
 
 loop-again : tie.Need-loop-preserved invariant-loop decreases-loop
 loop-again c =
-    let at-loop = c.before.before.before in
-    let line = at-loop.before.args.line.now in
-    let i : ℕ = at-loop.loop.i in
+    let at_loop = c.before.before.before in
+    let line = at_loop.before.args.line.now in
+    let i : ℕ = at_loop.loop.i in
     ⊎_elim
-    (λ w. omega (arith, at-loop.loop.invariant.2, count_space line i (omega arith) w.0.taken))
-    (λ w. omega (arith, at-loop.loop.invariant.2, count_other line i (omega arith) w.0.left))
+    (λ w. omega (arith, at_loop.loop.invariant.2, count_space line i (omega arith) w.0.taken))
+    (λ w. omega (arith, at_loop.loop.invariant.2, count_other line i (omega arith) w.0.left))
     c.if1.branch
 
 returns : tie.Need-returns invariant-loop decreases-loop
 returns c =
-    let at-loop = c.before in
-    omega (arith, at-loop.loop.invariant.2, count_end at-loop.before.args.line.now at-loop.loop.i (omega arith))
+    let at_loop = c.before in
+    omega (arith, at_loop.loop.invariant.2, count_end at_loop.before.args.line.now at_loop.loop.i (omega arith))
 
 pub count_fields_spec : {M : Type 1} → statement M
 count_fields_spec =

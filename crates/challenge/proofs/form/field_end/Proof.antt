@@ -24,8 +24,8 @@ shared-slice-read-if1 c = omega arith
 
 returns : tie.Need-returns invariant-loop decreases-loop
 returns c =
-    let at-loop = c.before.before.before in
-    omega (arith, at-loop.loop.invariant.1, size_space at-loop.before.args.line.now at-loop.loop.end (omega arith) c.if1.true)
+    let at_loop = c.before.before.before in
+    omega (arith, at_loop.loop.invariant.1, size_space at_loop.before.args.line.now at_loop.loop.end (omega arith) c.if1.true)
 
 add-end : tie.Need-overflow-add-end invariant-loop decreases-loop
 add-end c = omega arith
@@ -35,13 +35,13 @@ loop-less c = omega arith
 
 loop-again : tie.Need-loop-preserved invariant-loop decreases-loop
 loop-again c =
-    let at-loop = c.before.before.before in
-    (omega arith, omega (arith, at-loop.loop.invariant.1, size_other at-loop.before.args.line.now at-loop.loop.end (omega arith) c.if1.false))
+    let at_loop = c.before.before.before in
+    (omega arith, omega (arith, at_loop.loop.invariant.1, size_other at_loop.before.args.line.now at_loop.loop.end (omega arith) c.if1.false))
 
 returns-2 : tie.Need-returns-2 invariant-loop decreases-loop
 returns-2 c =
-    let at-loop = c.before in
-    omega (arith, at-loop.loop.invariant.1, size_end at-loop.before.args.line.now at-loop.loop.end (omega arith))
+    let at_loop = c.before in
+    omega (arith, at_loop.loop.invariant.1, size_end at_loop.before.args.line.now at_loop.loop.end (omega arith))
 
 pub field_end_spec : {M : Type 1} → statement M
 field_end_spec =

@@ -20,25 +20,25 @@ decreases-loop line k from₀ i₀ from i = k - i
 
 -- where the field at the place has been passed: its end, and what field k then is
 module _ (c : tie.After-field-end invariant-loop decreases-loop) where
-  abbrev at-loop : tie.At-loop invariant-loop decreases-loop
-  at-loop = c.before.before
+  abbrev at_loop : tie.At-loop invariant-loop decreases-loop
+  at_loop = c.before.before
 
   abbrev line : List ℕ
-  line = at-loop.before.before.args.line.now
+  line = at_loop.before.before.args.line.now
 
   abbrev from : ℕ
-  from = at-loop.loop.from
+  from = at_loop.loop.from
 
   abbrev left : ℕ
-  left = at-loop.before.before.args.k - (at-loop.loop.i + 1)
+  left = at_loop.before.before.args.k - (at_loop.loop.i + 1)
 
   within : end_of line from ≤ length line
-  within = end_within line from at-loop.loop.inv.1
+  within = end_within line from at_loop.loop.inv.1
 
-  one_left : field_of at-loop.before.before.args.k line ≡ field_of (suc left) (drop from line)
+  one_left : field_of at_loop.before.before.args.k line ≡ field_of (suc left) (drop from line)
   one_left =
-      let more : at-loop.before.before.args.k - at-loop.loop.i ≡ suc left = omega arith in
-      at-loop.loop.inv.2 ∙ ap (λ (n : ℕ). field_of n (drop from line)) more
+      let more : at_loop.before.before.args.k - at_loop.loop.i ≡ suc left = omega arith in
+      at_loop.loop.inv.2 ∙ ap (λ (n : ℕ). field_of n (drop from line)) more
 
 loop-holds : tie.Need-loop-init invariant-loop decreases-loop
 loop-holds c =
@@ -55,7 +55,7 @@ returns c =
     let end_is = at-end.field-end.ensures in (
       omega (arith, end_is, within at-end),
       one_left at-end
-          ∙ field_none (line at-end) (from at-end) (at-loop at-end).loop.invariant.1 (left at-end) (omega (arith, end_is))
+          ∙ field_none (line at-end) (from at-end) (at_loop at-end).loop.invariant.1 (left at-end) (omega (arith, end_is))
           ∙ ap (λ (n : ℕ). field_of 0 (drop n (line at-end))) (sym end_is),
     )
 
@@ -75,15 +75,15 @@ loop-again c =
       omega arith,
       omega (arith, end_is, within at-end),
       one_left at-end
-          ∙ field_next (line at-end) (from at-end) (at-loop at-end).loop.invariant.1 (left at-end) (omega (arith, end_is, within at-end))
+          ∙ field_next (line at-end) (from at-end) (at_loop at-end).loop.invariant.1 (left at-end) (omega (arith, end_is, within at-end))
           ∙ ap (λ (n : ℕ). field_of (left at-end) (drop (n + 1) (line at-end))) (sym end_is),
     )
 
 returns-2 : tie.Need-returns-2 invariant-loop decreases-loop
 returns-2 c =
-    let at-loop = c.before in
-    let none : at-loop.before.before.args.k - at-loop.loop.i ≡ 0 = omega arith in
-    (at-loop.loop.invariant.1, at-loop.loop.invariant.2 ∙ ap (λ (n : ℕ). field_of n (drop at-loop.loop.from at-loop.before.before.args.line.now)) none)
+    let at_loop = c.before in
+    let none : at_loop.before.before.args.k - at_loop.loop.i ≡ 0 = omega arith in
+    (at_loop.loop.invariant.1, at_loop.loop.invariant.2 ∙ ap (λ (n : ℕ). field_of n (drop at_loop.loop.from at_loop.before.before.args.line.now)) none)
 
 pub field_place_spec : {M : Type 1} → statement M
 field_place_spec =

@@ -30,9 +30,9 @@ shared-slice-read-if2-2 c = omega arith
 
 returns-2 : tie.Need-returns-2 invariant-loop decreases-loop
 returns-2 c =
-    let at-loop = c.before.before.before.before in
-    let given = at-loop.before.before.args in
-    sym (at-loop.loop.invariant.1 ∙ same_fails given.text.now given.other.now at-loop.loop.i (omega arith) (omega arith) c.if2.true)
+    let at_loop = c.before.before.before.before in
+    let given = at_loop.before.before.args in
+    sym (at_loop.loop.invariant.1 ∙ same_fails given.text.now given.other.now at_loop.loop.i (omega arith) (omega arith) c.if2.true)
 
 add-i : tie.Need-overflow-add-i invariant-loop decreases-loop
 add-i c = omega arith
@@ -42,15 +42,15 @@ loop-less c = omega arith
 
 loop-again : tie.Need-loop-preserved invariant-loop decreases-loop
 loop-again c =
-    let at-loop = c.before.before.before.before in
-    let given = at-loop.before.before.args in
-    (omega arith, at-loop.loop.invariant.1 ∙ same_passes given.text.now given.other.now at-loop.loop.i (omega arith) (omega arith) c.if2.false)
+    let at_loop = c.before.before.before.before in
+    let given = at_loop.before.before.args in
+    (omega arith, at_loop.loop.invariant.1 ∙ same_passes given.text.now given.other.now at_loop.loop.i (omega arith) (omega arith) c.if2.false)
 
 returns-3 : tie.Need-returns-3 invariant-loop decreases-loop
 returns-3 c =
-    let at-loop = c.before in
-    let given = at-loop.before.before.args in
-    sym (at-loop.loop.invariant.1 ∙ same_end given.text.now given.other.now at-loop.loop.i (omega arith) (omega arith))
+    let at_loop = c.before in
+    let given = at_loop.before.before.args in
+    sym (at_loop.loop.invariant.1 ∙ same_end given.text.now given.other.now at_loop.loop.i (omega arith) (omega arith))
 
 pub same_spec : {M : Type 1} → statement M
 same_spec =

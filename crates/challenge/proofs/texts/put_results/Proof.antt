@@ -28,13 +28,13 @@ module _ (c : tie.After-add-two) where
 
 -- and CK and IK after them
 module _ (c : tie.After-add-two2) where
-  abbrev at-res : tie.After-add-two
-  at-res = c.before.before.before.before.before.before.before.before
+  abbrev at_res : tie.After-add-two
+  at_res = c.before.before.before.before.before.before.before.before
 
   ik_ends : c.add-two2.result ≡ 129
   ik_ends =
-      let results = (at_start at-res).args.results in
-      omega (arith, (sizes (at_start at-res)).1, (sizes (at_start at-res)).2, res_ends at-res, c.add-two2.ensures.end_is, length_two (32 ∷ 67 ∷ 75 ∷ 32 ∷ []) results.ck (32 ∷ 73 ∷ 75 ∷ 32 ∷ []) results.ik)
+      let results = (at_start at_res).args.results in
+      omega (arith, (sizes (at_start at_res)).1, (sizes (at_start at_res)).2, res_ends at_res, c.add-two2.ensures.end_is, length_two (32 ∷ 67 ∷ 75 ∷ 32 ∷ []) results.ck (32 ∷ 73 ∷ 75 ∷ 32 ∷ []) results.ik)
 
 slice-aggregate-add-two : tie.Need-slice-aggregate-add-two
 slice-aggregate-add-two c = search rules
@@ -64,8 +64,8 @@ slice-aggregate-add-two-7 c = search rules
 
 add-two-requires-2 : tie.Need-add-two-requires-2
 add-two-requires-2 c κs =
-    let at-res = c.before.before.before.before.before.before.before in
-    omega (arith, res_ends at-res, res_room at-res, (sizes (at_start at-res)).1, (sizes (at_start at-res)).2)
+    let at_res = c.before.before.before.before.before.before.before in
+    omega (arith, res_ends at_res, res_room at_res, (sizes (at_start at_res)).1, (sizes (at_start at_res)).2)
 
 slice-aggregate-add-named : tie.Need-slice-aggregate-add-named
 slice-aggregate-add-named c = search rules
@@ -76,7 +76,7 @@ slice-aggregate-add-named-2 c = search rules
 add-named-requires : tie.Need-add-named-requires
 add-named-requires c κs =
     let at-ik = c.before.before.before.before.before in
-    omega (arith, ik_ends at-ik, res_room (at-res at-ik), at-ik.add-two2.auto.1.1.1.1.0, (sizes (at_start (at-res at-ik))).3)
+    omega (arith, ik_ends at-ik, res_room (at_res at-ik), at-ik.add-two2.auto.1.1.1.1.0, (sizes (at_start (at_res at-ik))).3)
 
 same_length : tie.Need-same-length
 same_length c = search rules
@@ -85,9 +85,9 @@ returns : tie.Need-returns
 unfolding name_opc name_res name_ck name_ik name_ak
 returns c =
     let at-ik = c.before.before.before.before.before.before.before.before in
-    let given = (at_start (at-res at-ik)).args in
+    let given = (at_start (at_res at-ik)).args in
     results_put given.opc.now given.results.res given.results.ck given.results.ik given.results.ak
-    (at-res at-ik).add-two.ensures at-ik.add-two2.ensures c.before.before.add-named.ensures
+    (at_res at-ik).add-two.ensures at-ik.add-two2.ensures c.before.before.add-named.ensures
 
 pub put_results_spec : {M : Type 1} → statement M
 put_results_spec =

@@ -30,18 +30,18 @@ loop-less c = omega arith
 
 loop-again : tie.Need-loop-preserved invariant-loop decreases-loop
 loop-again c =
-    let at-loop = c.before.before in (
+    let at_loop = c.before.before in (
       omega arith,
       c.lose-one.ensures
-          ∙ ap (λ (p : Phone). after_sealing p (phone_answer p (quoted "lost"))) at-loop.loop.invariant.1
-          ∙ phone_next at-loop.loop.i at-loop.before.args.phone,
+          ∙ ap (λ (p : Phone). after_sealing p (phone_answer p (quoted "lost"))) at_loop.loop.invariant.1
+          ∙ phone_next at_loop.loop.i at_loop.before.args.phone,
     )
 
 returns : tie.Need-returns invariant-loop decreases-loop
 returns c =
-    let at-loop = c.before in
-    let all : at-loop.loop.i ≡ at-loop.before.args.times = omega arith in
-    at-loop.loop.invariant.1 ∙ ap (λ (n : ℕ). phone_after n at-loop.before.args.phone) all
+    let at_loop = c.before in
+    let all : at_loop.loop.i ≡ at_loop.before.args.times = omega arith in
+    at_loop.loop.invariant.1 ∙ ap (λ (n : ℕ). phone_after n at_loop.before.args.phone) all
 
 pub lose_times_spec : {M : Type 1} → statement M
 lose_times_spec =

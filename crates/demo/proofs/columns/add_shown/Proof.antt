@@ -50,13 +50,13 @@ loop-less c = omega arith
 
 loop-again : tie.Need-loop-preserved invariant-loop decreases-loop
 loop-again c =
-    let at-loop = c.before.before.before in
-    let at_start = at-loop.before.before.before in
+    let at_loop = c.before.before.before in
+    let at_start = at_loop.before.before.before in
     let given = at_start.args in (
       omega arith,
-      ap (λ (l : List ℕ). set l (given.place + at-loop.loop.i) c.shown.result) at-loop.loop.invariant.1
-          ∙ ap (set (shown_so_far given.text.now given.output.now given.place at-loop.loop.i) (given.place + at-loop.loop.i)) c.shown.ensures
-          ∙ shown_turn given.text.now given.output.now given.place at-loop.loop.i at_start.requires (omega arith),
+      ap (λ (l : List ℕ). set l (given.place + at_loop.loop.i) c.shown.result) at_loop.loop.invariant.1
+          ∙ ap (set (shown_so_far given.text.now given.output.now given.place at_loop.loop.i) (given.place + at_loop.loop.i)) c.shown.ensures
+          ∙ shown_turn given.text.now given.output.now given.place at_loop.loop.i at_start.requires (omega arith),
     )
 
 add-result : tie.Need-overflow-add-result invariant-loop decreases-loop
@@ -67,11 +67,11 @@ same_length c = length-kept c.before
 
 returns : tie.Need-returns invariant-loop decreases-loop
 returns c =
-    let at-loop = c.before in
-    let at_start = at-loop.before.before.before in
+    let at_loop = c.before in
+    let at_start = at_loop.before.before.before in
     let given = at_start.args in
-    subst (Added (shown_text given.text.now) given.output.now given.place (given.place + at-loop.loop.i)) (sym at-loop.loop.invariant.1)
-    (shown_put given.text.now given.output.now given.place at-loop.loop.i at_start.requires (omega arith))
+    subst (Added (shown_text given.text.now) given.output.now given.place (given.place + at_loop.loop.i)) (sym at_loop.loop.invariant.1)
+    (shown_put given.text.now given.output.now given.place at_loop.loop.i at_start.requires (omega arith))
 
 pub add_shown_spec : {M : Type 1} → statement M
 add_shown_spec =

@@ -67,11 +67,11 @@ loop-less c = search rules
 loop-again : tie.Need-loop-preserved invariant-loop decreases-loop
 loop-again c =
     let at_keys = c.before.before in
-    let at-loop = at_keys.before.before in
-    let i : ℕ = at-loop.loop.i in (
+    let at_loop = at_keys.before.before in
+    let i : ℕ = at_loop.loop.i in (
       omega arith,
       c.put-keys.ensures
-          ∙ one_more at-loop.before.before.args.key.now (replicate 64 0) at-loop.loop.words i refl (omega arith) at-loop.loop.invariant.1 at_keys.keys-of-round.ensures,
+          ∙ one_more at_loop.before.before.args.key.now (replicate 64 0) at_loop.loop.words i refl (omega arith) at_loop.loop.invariant.1 at_keys.keys-of-round.ensures,
     )
 
 returns : tie.Need-returns invariant-loop decreases-loop

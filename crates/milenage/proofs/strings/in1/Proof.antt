@@ -37,9 +37,9 @@ loop-again c = filled_more _ c.before.before.loop.invariant (omega arith) c.octe
 
 returns : tie.Need-returns invariant-loop decreases-loop
 returns c =
-    let at-loop = c.before in
-    let start = at-loop.before.before.before in
-    filled_all _ at-loop.loop.invariant (omega arith) ∙ in1_octets start.args.sqn.now start.args.amf.now start.requires.0 start.requires.1
+    let at_loop = c.before in
+    let start = at_loop.before.before.before in
+    filled_all _ at_loop.loop.invariant (omega arith) ∙ in1_octets start.args.sqn.now start.args.amf.now start.requires.0 start.requires.1
 
 pub in1_spec : {M : Type 1} → statement M
 in1_spec = tie.close (tie.spec invariant-loop decreases-loop loop-holds octet-requires array-write-octets add-i loop-less loop-again returns)

@@ -43,18 +43,18 @@ loop-less c = search rules
 
 loop-again : tie.Need-loop-preserved invariant-loop decreases-loop
 loop-again c =
-    let at-loop = c.before.before in
-    let given = at-loop.before.args in
+    let at_loop = c.before.before in
+    let given = at_loop.before.args in
     let string : List ℕ = given.string.now in
-    let i : ℕ = at-loop.loop.i in
+    let i : ℕ = at_loop.loop.i in
     let fits = (c.shared-slice-known.given ((i + given.rotation / 8) % 16)).fits in
-    (refl, filled_more _ at-loop.loop.invariant.1 (omega arith) (turned_octet given.rotation string i (omega arith) (omega arith) fits))
+    (refl, filled_more _ at_loop.loop.invariant.1 (omega arith) (turned_octet given.rotation string i (omega arith) (omega arith) fits))
 
 returns : tie.Need-returns invariant-loop decreases-loop
 unfolding turned stored size
 returns c =
-    let at-loop = c.before in
-    filled_all _ at-loop.loop.invariant.1 (omega arith)
+    let at_loop = c.before in
+    filled_all _ at_loop.loop.invariant.1 (omega arith)
 
 pub turn_spec : {M : Type 1} → statement M
 turn_spec =

@@ -47,11 +47,11 @@ loop-again c = filled_more _ c.before.before.before.loop.invariant (omega arith)
 returns : tie.Need-returns invariant-loop decreases-loop
 unfolding xored
 returns c =
-    let at-loop = c.before in
-    let given = at-loop.before.args in
+    let at_loop = c.before in
+    let given = at_loop.before.args in
     let a : List ℕ = given.a.now in
     let b : List ℕ = given.b.now in
-    filled_all (octet_at a b) at-loop.loop.invariant (omega arith) ∙ ap (listed (octet_at a b)) (sym at-loop.before.requires.0)
+    filled_all (octet_at a b) at_loop.loop.invariant (omega arith) ∙ ap (listed (octet_at a b)) (sym at_loop.before.requires.0)
 
 pub xor_spec : {M : Type 1} → statement M
 xor_spec =

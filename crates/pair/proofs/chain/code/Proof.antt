@@ -134,22 +134,22 @@ loop-less c = search rules
 
 loop-again : tie.Need-loop-preserved invariant-loop decreases-loop
 loop-again c =
-    let at-loop = c.before.before.before.before.before in
-    let n : ℕ = at-loop.loop.n in
+    let at_loop = c.before.before.before.before.before in
+    let n : ℕ = at_loop.loop.n in
     let block : ℕ = c.before.block.result in
-    let x : ℕ = bit_xor at-loop.loop.a block in
-    let fits : x < 2 ^ 64 = xor_lt 64 at-loop.loop.a block at-loop.loop.invariant.a_fits (omega arith) in
-    let next : c.cipher-block.result ≡ chained (key at-loop) (string at-loop) (n + 1) =
+    let x : ℕ = bit_xor at_loop.loop.a block in
+    let fits : x < 2 ^ 64 = xor_lt 64 at_loop.loop.a block at_loop.loop.invariant.a_fits (omega arith) in
+    let next : c.cipher-block.result ≡ chained (key at_loop) (string at_loop) (n + 1) =
     c.cipher-block.ensures
-    ∙ under_key at-loop x fits
-    ∙ ap₂ (λ (a block : ℕ). kasumi (key at-loop) (bit_xor a block)) at-loop.loop.invariant.a_is c.before.block.ensures
-    ∙ sym (chained_next (key at-loop) (string at-loop) n) in
+    ∙ under_key at_loop x fits
+    ∙ ap₂ (λ (a block : ℕ). kasumi (key at_loop) (bit_xor a block)) at_loop.loop.invariant.a_is c.before.block.ensures
+    ∙ sym (chained_next (key at_loop) (string at_loop) n) in
     record {
       within = search rules;
       a_is = next;
       a_fits = omega arith;
-      b_is = ap₂ bit_xor at-loop.loop.invariant.b_is next ∙ sym (gathered_next (key at-loop) (string at-loop) n);
-      b_fits = xor_lt 64 at-loop.loop.b c.cipher-block.result at-loop.loop.invariant.b_fits (omega arith);
+      b_is = ap₂ bit_xor at_loop.loop.invariant.b_is next ∙ sym (gathered_next (key at_loop) (string at_loop) n);
+      b_fits = xor_lt 64 at_loop.loop.b c.cipher-block.result at_loop.loop.invariant.b_fits (omega arith);
     }
 
 cipher-block-requires-2 : tie.Need-cipher-block-requires-2 invariant-loop decreases-loop
@@ -161,15 +161,15 @@ cast-result c = search rules
 returns : tie.Need-returns invariant-loop decreases-loop
 unfolding f9_code code_of
 returns c =
-    let at-loop = c.before.before.before.before in
-    let inputs = (start at-loop).args.inputs in
-    let message : List ℕ = (start at-loop).args.message.now in
-    let bits : ℕ = (start at-loop).args.bits in
+    let at_loop = c.before.before.before.before in
+    let inputs = (start at_loop).args.inputs in
+    let message : List ℕ = (start at_loop).args.message.now in
+    let bits : ℕ = (start at_loop).args.bits in
     ap (left 32)
     (c.cipher-block2.ensures
-    ∙ under_modified at-loop at-loop.loop.b at-loop.loop.invariant.b_fits
-    ∙ ap (kasumi (xored (key at-loop) modifier))
-    (at-loop.loop.invariant.b_is ∙ ap (gathered (key at-loop) (string at-loop)) (omega (arith, at-loop.before.blocks2.ensures, length-padded inputs message bits))))
+    ∙ under_modified at_loop at_loop.loop.b at_loop.loop.invariant.b_fits
+    ∙ ap (kasumi (xored (key at_loop) modifier))
+    (at_loop.loop.invariant.b_is ∙ ap (gathered (key at_loop) (string at_loop)) (omega (arith, at_loop.before.blocks2.ensures, length-padded inputs message bits))))
 
 pub code_spec : {M : Type 1} → statement M
 code_spec =

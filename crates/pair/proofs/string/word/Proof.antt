@@ -42,17 +42,17 @@ decreases-loop octets at whole₀ j₀ whole j = 8 - j
 -- before a turn at most seven octets were read, so that there is room for one more
 few : (c : tie.In-loop invariant-loop decreases-loop) → c.before.loop.whole < 2 ^ 56
 few c =
-    let at-loop = c.before in
-    let octets : List ℕ = at-loop.before.args.octets.now in
-    subst (λ (x : ℕ). x < 2 ^ 56) (sym at-loop.loop.invariant.whole_is)
+    let at_loop = c.before in
+    let octets : List ℕ = at_loop.before.args.octets.now in
+    subst (λ (x : ℕ). x < 2 ^ 56) (sym at_loop.loop.invariant.whole_is)
     (lt_of_lt_of_le
-    (number_lt (bit_from octets at-loop.before.args.at) (8 * at-loop.loop.j) (λ j. bit_of_lt octets (8 * at-loop.before.args.at + j)))
+    (number_lt (bit_from octets at_loop.before.args.at) (8 * at_loop.loop.j) (λ j. bit_of_lt octets (8 * at_loop.before.args.at + j)))
     (pow_mono {j = 56} (omega arith)))
 
 -- the octet that a turn reads is one
-is_octet : (c : tie.After-shared-slice-known invariant-loop decreases-loop) → let at-loop = c.before.before in
-    get_or at-loop.before.args.octets.now (at-loop.before.args.at + at-loop.loop.j) 0 < 2 ^ 8
-is_octet c = let at-loop = c.before.before in omega (arith, c.shared-slice-known.given (at-loop.before.args.at + at-loop.loop.j))
+is_octet : (c : tie.After-shared-slice-known invariant-loop decreases-loop) → let at_loop = c.before.before in
+    get_or at_loop.before.args.octets.now (at_loop.before.args.at + at_loop.loop.j) 0 < 2 ^ 8
+is_octet c = let at_loop = c.before.before in omega (arith, c.shared-slice-known.given (at_loop.before.args.at + at_loop.loop.j))
 
 loop-holds : tie.Need-loop-init invariant-loop decreases-loop
 unfolding number
@@ -81,20 +81,20 @@ loop-less c = search rules
 
 loop-again : tie.Need-loop-preserved invariant-loop decreases-loop
 loop-again c =
-    let at-loop = c.before.before in
-    let octets : List ℕ = at-loop.before.args.octets.now in
-    let at : ℕ = at-loop.before.args.at in
-    let j : ℕ = at-loop.loop.j in
+    let at_loop = c.before.before in
+    let octets : List ℕ = at_loop.before.args.octets.now in
+    let at : ℕ = at_loop.before.args.at in
+    let j : ℕ = at_loop.loop.j in
     record {
       within = omega arith;
-      whole_is = ap (λ (x : ℕ). x * 256 + get_or octets (at + j) 0) at-loop.loop.invariant.whole_is ∙ octet_more octets at j (is_octet c);
+      whole_is = ap (λ (x : ℕ). x * 256 + get_or octets (at + j) 0) at_loop.loop.invariant.whole_is ∙ octet_more octets at j (is_octet c);
     }
 
 returns : tie.Need-returns invariant-loop decreases-loop
 returns c =
-    let at-loop = c.before in
-    let bit : ℕ → ℕ = bit_from at-loop.before.args.octets.now at-loop.before.args.at in
-    at-loop.loop.invariant.whole_is ∙ ap (number bit) {y = 64} (omega arith)
+    let at_loop = c.before in
+    let bit : ℕ → ℕ = bit_from at_loop.before.args.octets.now at_loop.before.args.at in
+    at_loop.loop.invariant.whole_is ∙ ap (number bit) {y = 64} (omega arith)
 
 pub word_spec : {M : Type 1} → statement M
 word_spec =

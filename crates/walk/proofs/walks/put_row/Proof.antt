@@ -2,14 +2,14 @@
 -- Assumes nothing.
 use Prim.Native.Nat.{◌≤◌}
 use native.Mathlib.Omega.{arith}
-use Rattle.walk.proofs.Answers.{row_put, length_sent, length-number, length_refusal}
+use Rattle.walk.proofs.Answers.{row_put, length-sent, length-number, length_refusal}
 use borrow.Author.Rules.{rules}
 use Rattle.walk.proofs.walks.put_row.Statement.{statement}
 use Rattle.walk.proofs.walks.put_row.Tie as tie
 
 -- where a field has been put, how far it reaches: at most eleven octets on
 sent_ends : (c : tie.After-add-sent) → c.add-sent.result ≤ 11
-sent_ends c = omega (arith, c.add-sent.ensures.end_is, length_sent c.before.before.before.args.sent)
+sent_ends c = omega (arith, c.add-sent.ensures.end_is, length-sent c.before.before.before.args.sent)
 
 number_ends : (c : tie.After-add-candidate) → c.add-candidate.result ≤ 22
 number_ends c =
