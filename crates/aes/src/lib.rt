@@ -1,4 +1,6 @@
 // The block cipher AES-128 of FIPS 197, encryption alone.
+#![tactic(auto)]
+
 mod rounds;
 mod schedule;
 mod table;
@@ -9,7 +11,7 @@ ghost use Rattle.refusals.specs.Call.{Answered, front};
 ghost use Rattle.aes.specs.Aes.{cipher, aes as Aes·aes, expand_key_call, aes_call};
 
 // The words of an expanded key, four a round key, or 44 zeros where the key is refused.
-#[derive(Drop)]
+#[derive(Clone, Copy)]
 pub struct ExpandedKey {
     pub refusal: u8,
     pub words: [u32; 44],
@@ -45,7 +47,7 @@ fn put_encrypted(key: &[u8], block: &[u8], output: &mut [u8])
 {
     let words = schedule::expanded(key);
     let encrypted = rounds::encrypted(&words, block);
-    bytes::copy(&encrypted, output);
+    output[..16].copy_from_slice(&encrypted);
 }
 
 // Encrypts a block under a key, both of 16 octets.

@@ -8,7 +8,7 @@ ghost use Rattle.aes.specs.Columns.{column_of, columns_of, held, gathered};
 use super::{table, words};
 
 // The columns of the state.
-#[derive(Drop)]
+#[derive(Clone, Copy)]
 pub(crate) struct Columns {
     pub c0: u32,
     pub c1: u32,

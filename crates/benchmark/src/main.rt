@@ -2,6 +2,8 @@
 // 0 for GEA4 of M octets, 1 for A5/4 of GSM, 2 for a block of KASUMI, 3 for sealing and 4 for opening a frame with a payload of M octets, 5 for f8 and 6
 // for f9 of a message of M bits, 7 for a full set of MILENAGE, eight calls; M says nothing of 1, 2 and 7. It writes the exclusive or of all octets that
 // were handed out, so that none can be left out.
+#![tactic(auto)]
+
 mod calls;
 
 ghost use Rattle.std.specs.Prelude.{◌≡◌, ◌≤◌, length};

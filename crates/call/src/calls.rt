@@ -6,7 +6,7 @@ use crate::{
 };
 
 // What the table says of a line: whose call it is, which of theirs, and the place of its last field, which is NONE where the line is no call.
-#[derive(Drop)]
+#[derive(Clone, Copy)]
 struct Found {
     whose: u8,
     which: u8,

@@ -9,7 +9,7 @@ pub(crate) type Given = [u8; 16384];
 const BEHIND: usize = 8192;
 
 // Where a field stands in its line.
-#[derive(Drop)]
+#[derive(Clone, Copy)]
 struct Span {
     start: usize,
     end: usize,

@@ -1,4 +1,6 @@
 // Makes any public call: a line of standard input is a call, and a line of standard output everything that it hands out.
+#![tactic(auto)]
+
 mod bits;
 mod blocks;
 mod calls;

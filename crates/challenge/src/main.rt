@@ -1,5 +1,7 @@
 // Reads lines of K, OP or OPc, RAND and, where wanted, SQN and AMF, and writes for each the values that MILENAGE works out, a refusal's number, or `?`.
 // It only moves octets: what is given is the module `form`, and what is answered the module `answers`.
+#![tactic(auto)]
+
 mod answers;
 mod form;
 mod requests;
@@ -14,7 +16,7 @@ use libc::{STDIN_FILENO, STDOUT_FILENO};
 use lines::Heard;
 
 // What has been heard so far, and whether to go on. Where a write has failed nothing is left to answer.
-#[derive(Drop)]
+#[derive(Clone, Copy)]
 struct Moved {
     heard: Heard,
     on: bool,

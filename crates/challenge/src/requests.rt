@@ -15,7 +15,7 @@ const LINE_FEED: u8 = b'\n';
 const ROOM: usize = 192;
 
 // The refusal of an octet, the state after it, and how many octets its answer has at the front of the output.
-#[derive(Drop)]
+#[derive(Clone, Copy)]
 pub(crate) struct Told {
     pub refusal: u8,
     pub heard: Heard,

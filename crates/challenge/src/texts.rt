@@ -4,7 +4,7 @@ ghost use Rattle.lines.specs.Text.{AtFront, Added, hex_text};
 ghost use Rattle.challenge.specs.Texts.{named, results_text, codes_text};
 
 // What every challenge has. All is zero where refused.
-#[derive(Drop)]
+#[derive(Clone, Copy)]
 pub(crate) struct Results {
     pub refusal: u8,
     pub res: [u8; 8],
@@ -14,7 +14,7 @@ pub(crate) struct Results {
 }
 
 // MAC-A, by which the phone knows the network, and MAC-S, by which the network knows the phone. Both are zero where refused.
-#[derive(Drop)]
+#[derive(Clone, Copy)]
 pub(crate) struct Codes {
     pub refusal: u8,
     pub network: [u8; 8],

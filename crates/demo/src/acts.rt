@@ -14,14 +14,14 @@ use crate::{columns, hosts, plugs};
 use script::{Asked, Why};
 
 // The stage after a line, and how many octets its answer has.
-#[derive(Drop)]
+#[derive(Clone, Copy)]
 pub(crate) struct Stepped {
     pub stage: Stage,
     pub written: usize,
 }
 
 // The cell after what it was handed, and where the line that shows its answer ends.
-#[derive(Drop)]
+#[derive(Clone, Copy)]
 pub(crate) struct Handed {
     pub cell: Cell,
     pub end: usize,

@@ -7,7 +7,7 @@ use receiver::Receiver;
 use sender::Sender;
 
 // The phone: its end of the link, the form of it that was stored last, and whether the bench keeps its reservation ahead by itself.
-#[derive(Drop)]
+#[derive(Clone, Copy)]
 pub(crate) struct Phone {
     pub sender: Sender,
     pub form: [u8; 29],
@@ -15,28 +15,28 @@ pub(crate) struct Phone {
 }
 
 // The cell: its end of the link, and the form of it that was stored last.
-#[derive(Drop)]
+#[derive(Clone, Copy)]
 pub(crate) struct Cell {
     pub receiver: Receiver,
     pub form: [u8; 33],
 }
 
 // What the phone answered, and the phone afterwards.
-#[derive(Drop)]
+#[derive(Clone, Copy)]
 pub(crate) struct PhoneAnswered {
     pub refusal: u8,
     pub phone: Phone,
 }
 
 // What the cell answered, and the cell afterwards.
-#[derive(Drop)]
+#[derive(Clone, Copy)]
 pub(crate) struct CellAnswered {
     pub refusal: u8,
     pub cell: Cell,
 }
 
 // What the phone answered to a text: the frame's number and its length, and the phone afterwards.
-#[derive(Drop)]
+#[derive(Clone, Copy)]
 pub(crate) struct Sealed {
     pub refusal: u8,
     pub number: u32,

@@ -1,4 +1,6 @@
 // Reads a script of one command a line, plays it, and writes what the phone, the box and the cell did, a line each.
+#![tactic(auto)]
+
 mod acts;
 mod columns;
 mod hosts;
@@ -13,7 +15,7 @@ use libc::{STDIN_FILENO, STDOUT_FILENO};
 use play::Play;
 
 // Where the play stands, and whether to go on. Where a write has failed nothing is left to answer.
-#[derive(Drop)]
+#[derive(Clone, Copy)]
 struct Moved {
     play: Play,
     on: bool,

@@ -24,14 +24,14 @@ const SAPI: u8 = 3;
 const DIRECTION: u8 = 0;
 
 // The box's shelf: ten places of 46 octets, and how many of them the frame kept there has, 0 where none is.
-#[derive(Drop)]
+#[derive(Clone, Copy)]
 pub(crate) struct Shelf {
     pub frames: [u8; 460],
     pub sizes: [u8; 10],
 }
 
 // The phone, the cell, and the shelf of the box between them.
-#[derive(Drop)]
+#[derive(Clone, Copy)]
 pub(crate) struct Stage {
     pub phone: Phone,
     pub cell: Cell,
@@ -39,7 +39,7 @@ pub(crate) struct Stage {
 }
 
 // The state between two octets: the line so far, the stage, and how many octets the answer to the last octet has at the front of the output.
-#[derive(Drop)]
+#[derive(Clone, Copy)]
 pub(crate) struct Play {
     pub heard: Heard,
     pub stage: Stage,

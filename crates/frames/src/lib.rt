@@ -1,4 +1,6 @@
 // The bench frame: six octets of header, then the ciphered payload of 1 to 1,520 octets.
+#![tactic(auto)]
+
 ghost use Rattle.std.specs.Prelude.{◌≡◌, true, [], ◌++◌, ◌+◌, ◌*◌, ◌≤◌, length, drop};
 ghost use Rattle.refusals.specs.Call.{Answered};
 ghost use Rattle.frames.specs.Frame.{header_of, header_octets, looked, look_refusal_call, is_whole, has_zero_bits, is_header, put_header_call};
@@ -15,7 +17,7 @@ pub const HEADER_SIZE: usize = 6;
 pub const MOST_PAYLOAD: usize = 1520;
 
 // What a header says beside the length: the service number, the direction and N, the low nine bits of the number.
-#[derive(Drop)]
+#[derive(Clone, Copy)]
 pub struct Header {
     pub sapi: u8,
     pub direction: u8,

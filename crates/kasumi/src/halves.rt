@@ -4,14 +4,14 @@ ghost use Rattle.std.specs.Int.Bits.{bit_xor};
 ghost use Rattle.kasumi.specs.Halves.{bits32, bits64};
 
 // 32 bits as two words.
-#[derive(Drop)]
+#[derive(Clone, Copy)]
 pub(crate) struct Half {
     pub l: u16,
     pub r: u16,
 }
 
 // 64 bits as two halves.
-#[derive(Drop)]
+#[derive(Clone, Copy)]
 pub(crate) struct Block {
     pub left: Half,
     pub right: Half,

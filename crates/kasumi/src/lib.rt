@@ -1,4 +1,6 @@
 // The block cipher KASUMI of TS 35.202. The standard's names (FL, FO, FI, KL, KO, KI) stay in this crate.
+#![tactic(auto)]
+
 mod halves;
 mod rounds;
 mod schedule;
@@ -10,14 +12,14 @@ ghost use Rattle.kasumi.specs.Kasumi.{kasumi_call};
 ghost use Rattle.kasumi.specs.Lent.{round_keys_call, ciphered_by};
 
 // The answer of the cipher: the refusal number, or 0 and the ciphered block.
-#[derive(Drop)]
+#[derive(Clone, Copy)]
 pub struct Ciphered {
     pub refusal: u8,
     pub block: u64,
 }
 
 // The keys of all rounds, eight words a round, or 64 zeros where the key is refused.
-#[derive(Drop)]
+#[derive(Clone, Copy)]
 pub struct RoundKeys {
     pub refusal: u8,
     pub words: [u16; 64],

@@ -9,7 +9,7 @@ const CONSTANTS: [u16; 8] = [
 ];
 
 // The keys of one round.
-#[derive(Drop)]
+#[derive(Clone, Copy)]
 pub(crate) struct Keys {
     pub kl1: u16,
     pub kl2: u16,

@@ -1,6 +1,6 @@
 // The fixed inputs of each algorithm, named once (document 01; document 004, table B.1).
 
-#[derive(Drop)]
+#[derive(Clone, Copy)]
 pub(crate) struct Gsm {}
 
 impl Gsm {
@@ -13,7 +13,7 @@ impl Gsm {
     pub const CL: u32 = 228;
 }
 
-#[derive(Drop)]
+#[derive(Clone, Copy)]
 pub(crate) struct Ecsd {}
 
 impl Ecsd {
@@ -27,7 +27,7 @@ impl Ecsd {
 }
 
 // CL is eight times the octets asked for, so it is no constant here.
-#[derive(Drop)]
+#[derive(Clone, Copy)]
 pub(crate) struct Gea4 {}
 
 impl Gea4 {
@@ -39,7 +39,7 @@ impl Gea4 {
 }
 
 // The fixed inputs of a kind of A5/4, as one value.
-#[derive(Drop)]
+#[derive(Clone, Copy)]
 pub(crate) struct Kind {
     pub ca: u8,
     pub cb: u8,

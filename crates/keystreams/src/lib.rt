@@ -1,5 +1,7 @@
 // The keystreams of document 004: A5/4 for GSM, A5/4 for ECSD and GEA4 for GPRS. Each is KGCORE with the fixed inputs of its kind. Under a key of
 // 8 octets they are A5/3 and GEA3.
+#![tactic(auto)]
+
 mod kinds;
 
 ghost use Rattle.std.specs.Prelude.{◌≡◌, ◌<◌, ◌≤◌, []};
@@ -12,7 +14,7 @@ use kgcore::Inputs;
 use kinds::{Ecsd, Gea4, Gsm, Kind};
 
 // The 16 octets that a key yields, or 16 zeros where it is refused.
-#[derive(Drop)]
+#[derive(Clone, Copy)]
 pub struct PreparedKey {
     pub refusal: u8,
     pub key: [u8; 16],

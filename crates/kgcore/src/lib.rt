@@ -1,4 +1,6 @@
 // The core keystream generator KGCORE of document 004: KASUMI in a form of output feedback.
+#![tactic(auto)]
+
 ghost use Rattle.std.specs.Prelude.{◌≡◌, [], ◌++◌, ◌≤◌, ◌<◌, min, length, drop};
 ghost use Rattle.std.specs.Int.Bits.{bit_xor};
 ghost use Rattle.octets.specs.Bits.{bit_at, octet, listed, size as Bits·size, stored};
@@ -11,7 +13,7 @@ ghost use Rattle.kgcore.specs.Kgcore.{register as Kgcore·register, modified as 
 const MOST_BITS: u32 = 524_288;
 
 // What a caller sets: CA (8 bits), CB (5), CC (32), CD (1) and CE (16).
-#[derive(Drop)]
+#[derive(Clone, Copy)]
 pub struct Inputs {
     pub ca: u8,
     pub cb: u8,

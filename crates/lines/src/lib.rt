@@ -1,4 +1,6 @@
 // Text that the programs read and write: digits, numbers, octets as hex, and lines that are heard octet by octet.
+#![tactic(auto)]
+
 ghost use Rattle.std.specs.Prelude.{◌≡◌, [], ◌∷◌, ◌^◌, ◌<◌, ◌≤◌, length};
 ghost use Rattle.refusals.specs.Call.{Answered};
 ghost use Rattle.lines.specs.Digits.{digit_value, all_digits, digits_call, decimal_call, hexadecimal_call};
@@ -9,14 +11,14 @@ ghost use Rattle.lines.specs.Hearing.{silence as Hearing·silence, kept as Heari
 pub const LONGEST: usize = 160;
 
 // The refusal of a text that is no number, and the number's value, which is 0 where refused.
-#[derive(Drop)]
+#[derive(Clone, Copy)]
 pub struct Number {
     pub refusal: u8,
     pub value: u64,
 }
 
 // The refusal of a text that was to be put at the front of an output, and how many octets it has there, 0 where refused.
-#[derive(Drop)]
+#[derive(Clone, Copy)]
 pub struct Put {
     pub refusal: u8,
     pub count: usize,
@@ -200,12 +202,12 @@ pub fn put_text(text: &[u8], output: &mut [u8]) -> Put
             count: 0,
         };
     }
-    bytes::copy(text, output);
+    output[..count].copy_from_slice(text);
     Put { refusal: 0, count }
 }
 
 // The line so far. A count above 160 means that the line is too long, which is one line like any other that is too long.
-#[derive(Drop)]
+#[derive(Clone, Copy)]
 pub struct Heard {
     pub octets: [u8; 160],
     pub count: usize,

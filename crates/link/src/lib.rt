@@ -1,4 +1,6 @@
 // What both ends of a numbered, ciphered link share, and the ciphering of a payload under its number.
+#![tactic(auto)]
+
 mod ciphering;
 
 ghost use Rattle.std.specs.Prelude.{◌≡◌, []};
@@ -6,7 +8,7 @@ ghost use Rattle.refusals.specs.Call.{Answered};
 ghost use Rattle.link.specs.Link.{is_service, is_direction, link_can_arise, no_link, open_link_call, cipher_call};
 
 // The key, the offset IOV, the service number SAPI and the direction.
-#[derive(Drop)]
+#[derive(Clone, Copy)]
 pub struct Link {
     pub key: [u8; 16],
     pub iov: u32,
@@ -15,7 +17,7 @@ pub struct Link {
 }
 
 // The answer to opening a link.
-#[derive(Drop)]
+#[derive(Clone, Copy)]
 pub struct OpenedLink {
     pub refusal: u8,
     pub link: Link,

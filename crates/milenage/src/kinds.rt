@@ -1,7 +1,7 @@
 // The rotations r1 to r5, in bits, and the constants c1 to c5 of the five outputs, and the octets of an output that RES and AK are, named once
 // (TS 35.206, 4.1). A constant is a number of 128 bits, of which the last octet alone is not zero.
 
-#[derive(Drop)]
+#[derive(Clone, Copy)]
 pub(crate) struct Out1 {}
 
 impl Out1 {
@@ -10,7 +10,7 @@ impl Out1 {
     pub const CONSTANT: u8 = 0;
 }
 
-#[derive(Drop)]
+#[derive(Clone, Copy)]
 pub(crate) struct Out2 {}
 
 impl Out2 {
@@ -19,7 +19,7 @@ impl Out2 {
     pub const CONSTANT: u8 = 1;
 }
 
-#[derive(Drop)]
+#[derive(Clone, Copy)]
 pub(crate) struct Out3 {}
 
 impl Out3 {
@@ -28,7 +28,7 @@ impl Out3 {
     pub const CONSTANT: u8 = 2;
 }
 
-#[derive(Drop)]
+#[derive(Clone, Copy)]
 pub(crate) struct Out4 {}
 
 impl Out4 {
@@ -37,7 +37,7 @@ impl Out4 {
     pub const CONSTANT: u8 = 4;
 }
 
-#[derive(Drop)]
+#[derive(Clone, Copy)]
 pub(crate) struct Out5 {}
 
 impl Out5 {
@@ -47,7 +47,7 @@ impl Out5 {
 }
 
 // RES is the second half of OUT2.
-#[derive(Drop)]
+#[derive(Clone, Copy)]
 pub(crate) struct Res {}
 
 impl Res {
@@ -57,7 +57,7 @@ impl Res {
 }
 
 // AK is the first 48 bits of an output.
-#[derive(Drop)]
+#[derive(Clone, Copy)]
 pub(crate) struct Ak {}
 
 impl Ak {

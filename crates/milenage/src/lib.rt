@@ -1,4 +1,6 @@
 // MILENAGE of TS 35.206, on AES-128: what a phone and its network each work out from a challenge RAND, with the key K that both hold.
+#![tactic(auto)]
+
 mod kinds;
 mod strings;
 
@@ -12,7 +14,7 @@ use kinds::{Ak, Out2, Out3, Out4, Out5, Res};
 
 // What a result is: the octets from `start` on, `size` of them, of the output before whose encryption a string turns by `rotation` bits and is xored with
 // `constant`.
-#[derive(Drop)]
+#[derive(Clone, Copy)]
 struct Part {
     rotation: usize,
     constant: u8,

@@ -12,7 +12,7 @@ pub(crate) fn put(octets: &[u8], output: &mut [u8])
     requires { length octets.now ≤ length output.old }
     ensures { output.new ≡ front octets.now output.old }
 {
-    bytes::copy(octets, output);
+    output[..octets.len()].copy_from_slice(octets);
 }
 
 // The xor of two strings.

@@ -1,4 +1,6 @@
 // The numbering of a receiver: which full number a frame has, of which nine bits are on the air.
+#![tactic(auto)]
+
 ghost use Rattle.std.specs.Prelude.{◌≡◌, [], ◌∷◌, ◌+◌, ◌-◌, ◌^◌, ◌≤◌, ◌<◌};
 ghost use Rattle.refusals.specs.Call.{Answered};
 ghost use Rattle.numbering.specs.Numbering.{width, end, can_arise, is_accepted, first_from, number_call, accepted as Numbering·accepted, start as Numbering·start};
@@ -10,14 +12,14 @@ pub const WIDTH: u32 = 32;
 pub const END: u32 = 134_217_728;
 
 // The state: the next number V, and the marks: mark k, counted from the lowest bit, is of the number V - 1 - k.
-#[derive(Drop)]
+#[derive(Clone, Copy)]
 pub struct Numbering {
     pub next: u32,
     pub marks: u32,
 }
 
 // The answer to a step: the refusal, the candidate where it is given, and the state afterwards.
-#[derive(Drop)]
+#[derive(Clone, Copy)]
 pub struct Numbered {
     pub refusal: u8,
     pub number: u32,

@@ -1,4 +1,6 @@
 // Bit strings in octets: the first bit is the highest of the first octet, and spare bits of the last octet are zero.
+#![tactic(auto)]
+
 ghost use Rattle.std.specs.Prelude.{◌≡◌, [], ℕ, ◌+◌, ◌^◌, ◌<◌};
 ghost use Rattle.octets.specs.Bits.{bit_of, number, first_bits, octet_or_zero, size as Bits·size};
 ghost use Rattle.refusals.specs.Call.{Answered};

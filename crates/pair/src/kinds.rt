@@ -1,6 +1,6 @@
 // The fixed inputs of f8, named once (document 004, table B.1). CB is the BEARER.
 
-#[derive(Drop)]
+#[derive(Clone, Copy)]
 pub(crate) struct F8 {}
 
 impl F8 {

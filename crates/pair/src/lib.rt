@@ -1,5 +1,7 @@
 // The third generation pair of TS 35.201: f8, which enciphers a message, and f9, which gives a code by which a changed message is told. Both take a key
 // of 16 octets and a message of 1 to 20,000 bits.
+#![tactic(auto)]
+
 mod chain;
 mod kinds;
 mod string;
@@ -19,7 +21,7 @@ use kinds::F8;
 const MOST_BITS: u32 = 20_000;
 
 // What a caller of f8 sets: COUNT (32 bits), BEARER (5) and DIRECTION (1).
-#[derive(Drop)]
+#[derive(Clone, Copy)]
 pub struct F8Inputs {
     pub count: u32,
     pub bearer: u8,
@@ -27,7 +29,7 @@ pub struct F8Inputs {
 }
 
 // What a caller of f9 sets: COUNT (32 bits), FRESH (32) and DIRECTION (1).
-#[derive(Drop)]
+#[derive(Clone, Copy)]
 pub struct F9Inputs {
     pub count: u32,
     pub fresh: u32,
@@ -35,14 +37,14 @@ pub struct F9Inputs {
 }
 
 // The answer of f9: the refusal number, or 0 and the code.
-#[derive(Drop)]
+#[derive(Clone, Copy)]
 pub struct Code {
     pub refusal: u8,
     pub code: u32,
 }
 
 // The answer of a check: the refusal number, or 0 and whether the code is right.
-#[derive(Drop)]
+#[derive(Clone, Copy)]
 pub struct Checked {
     pub refusal: u8,
     pub right: bool,

@@ -1,4 +1,6 @@
 // The receiving end of a link. A state goes in by value and comes back.
+#![tactic(auto)]
+
 ghost use Rattle.std.specs.Prelude.{◌≡◌, true, [], ◌∷◌};
 ghost use Rattle.refusals.specs.Refusal.{first};
 ghost use Rattle.refusals.specs.Call.{Answered};
@@ -10,21 +12,21 @@ use link::Link;
 use numbering::Numbering;
 
 // The receiving end, with what it has accepted.
-#[derive(Drop)]
+#[derive(Clone, Copy)]
 pub struct Receiver {
     pub link: Link,
     pub numbering: Numbering,
 }
 
 // The answer to opening a receiver, or to making one from its stored form.
-#[derive(Drop)]
+#[derive(Clone, Copy)]
 pub struct OpenedReceiver {
     pub refusal: u8,
     pub receiver: Receiver,
 }
 
 // The answer to opening a frame: its number and the payload's length, and the receiver afterwards.
-#[derive(Drop)]
+#[derive(Clone, Copy)]
 pub struct Opened {
     pub refusal: u8,
     pub number: u32,

@@ -1,4 +1,5 @@
 // The refusal numbers of document 01, named once. A call answers 0 where nothing is refused.
+#![tactic(auto)]
 
 // The key is neither 8 octets nor 16; of KASUMI, KGCORE, f8, f9, AES and MILENAGE, not 16. Of MILENAGE also OP, OPc or RAND is not 16 octets.
 pub const KEY: u8 = 1;

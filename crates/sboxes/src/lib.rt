@@ -1,4 +1,6 @@
 // The S-boxes of KASUMI, and the table for its function FI that is made of them.
+#![tactic(auto)]
+
 mod boxes;
 
 ghost use Rattle.std.specs.Prelude.{◌≡◌, ◌++◌, ◌+◌, ◌^◌, ◌<◌, length, take};

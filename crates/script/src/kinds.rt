@@ -1,7 +1,7 @@
 // The kinds of lines: what a line may ask for, and why one is bad.
 
 // Why a line is bad.
-#[derive(Drop)]
+#[derive(Clone, Copy)]
 pub enum Why {
     Long,
     Empty,
@@ -13,7 +13,7 @@ pub enum Why {
 }
 
 // What a line asks for.
-#[derive(Drop)]
+#[derive(Clone, Copy)]
 pub enum Asked {
     Remark,
     Pass,

@@ -1,4 +1,6 @@
 // The lines of a script for the bench: what each asks for.
+#![tactic(auto)]
+
 pub mod kinds;
 
 ghost use Rattle.std.specs.Prelude.{◌≡◌};

@@ -1,4 +1,6 @@
 // The sending end of a link. A state goes in by value and comes back.
+#![tactic(auto)]
+
 ghost use Rattle.std.specs.Prelude.{◌≡◌, true, [], ◌∷◌, ◌+◌, ◌≤◌, ◌<◌, length};
 ghost use Rattle.refusals.specs.Call.{Answered, front};
 ghost use Rattle.link.specs.Link.{link_can_arise, frame_at};
@@ -11,7 +13,7 @@ use link::Link;
 pub const AHEAD: u32 = 64;
 
 // The sending end, with the number of its next frame and its reservation: it seals only numbers below that.
-#[derive(Drop)]
+#[derive(Clone, Copy)]
 pub struct Sender {
     pub link: Link,
     pub next: u32,
@@ -19,21 +21,21 @@ pub struct Sender {
 }
 
 // The answer to opening a sender, or to making one from its stored form.
-#[derive(Drop)]
+#[derive(Clone, Copy)]
 pub struct OpenedSender {
     pub refusal: u8,
     pub sender: Sender,
 }
 
 // The answer to telling a sender a reservation.
-#[derive(Drop)]
+#[derive(Clone, Copy)]
 pub struct Reserved {
     pub refusal: u8,
     pub sender: Sender,
 }
 
 // The answer to sealing: the frame's number and its length, and the sender afterwards.
-#[derive(Drop)]
+#[derive(Clone, Copy)]
 pub struct Sealed {
     pub refusal: u8,
     pub number: u32,

@@ -1,4 +1,6 @@
 // The stored forms of both ends, for a host that is to go on after its plug was pulled.
+#![tactic(auto)]
+
 ghost use Rattle.std.specs.Prelude.{◌≡◌, [], ◌+◌, ◌*◌, ◌≤◌, ◌<◌, length, get_or};
 ghost use Rattle.refusals.specs.Refusal.{first};
 ghost use Rattle.refusals.specs.Call.{Answered, front};
@@ -157,7 +159,7 @@ fn link_in(octets: &[u8]) -> Link
     ensures { result ≡ link_in octets.now }
 {
     let mut key = [0u8; 16];
-    bytes::copy(&octets[3..19], &mut key);
+    key.copy_from_slice(&octets[3..19]);
     Link {
         key,
         iov: number_at(octets, 19),

@@ -9,7 +9,7 @@ const AFTER_M: usize = 44;
 const M_LIMIT: u64 = 1520;
 
 // What a line asks; all is zero where the line is not of the form.
-#[derive(Drop)]
+#[derive(Clone, Copy)]
 pub(crate) struct Request {
     pub ok: bool,
     pub m: u32,

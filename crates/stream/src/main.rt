@@ -1,5 +1,7 @@
 // Reads lines of M, key, INPUT and direction, and writes for each the GEA4 octets as capital hex, a refusal's number, or `?`.
 // It only moves octets: what is asked is the module `form`, and what is answered the module `requests`.
+#![tactic(auto)]
+
 mod form;
 mod requests;
 
@@ -12,7 +14,7 @@ use libc::{STDIN_FILENO, STDOUT_FILENO};
 use lines::Heard;
 
 // What has been heard so far, and whether to go on. Where a write has failed nothing is left to answer.
-#[derive(Drop)]
+#[derive(Clone, Copy)]
 struct Moved {
     heard: Heard,
     on: bool,

@@ -18,7 +18,7 @@ const BAD: u8 = b'?';
 const ROOM: usize = 3041;
 
 // The refusal of an octet, the state after it, and how many octets its answer has at the front of the output.
-#[derive(Drop)]
+#[derive(Clone, Copy)]
 pub(crate) struct Told {
     pub refusal: u8,
     pub heard: Heard,

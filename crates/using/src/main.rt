@@ -1,4 +1,6 @@
 // A phone and a cell in one program: what a program of your own does to send texts over a link, to receive them, and to go on after a pulled plug.
+#![tactic(auto)]
+
 ghost use Rattle.io.specs.Counts.{IsPrefixLen};
 
 use libc::STDOUT_FILENO;

@@ -1,5 +1,7 @@
 // Reads one N a line, walks a receiver's numbering along them, and writes for each N, the candidate, the answer and V afterwards.
 // It only moves octets: what a line sends and what is answered is the module `walks`.
+#![tactic(auto)]
+
 mod walks;
 
 ghost use Rattle.std.specs.Prelude.{true, ◌≡◌, ◌≤◌, length};
@@ -10,7 +12,7 @@ use libc::{STDIN_FILENO, STDOUT_FILENO};
 use walks::Walk;
 
 // Where the walk stands, and whether to go on. Where a write has failed nothing is left to answer.
-#[derive(Drop)]
+#[derive(Clone, Copy)]
 struct Moved {
     walk: Walk,
     on: bool,

@@ -22,14 +22,14 @@ const LARGEST: u64 = 511;
 const ROOM: usize = 44;
 
 // The state between two octets: the line so far, and the numbering.
-#[derive(Drop)]
+#[derive(Clone, Copy)]
 pub(crate) struct Walk {
     pub heard: Heard,
     pub numbering: Numbering,
 }
 
 // The refusal of an octet, the state after it, and how many octets its answer has at the front of the output.
-#[derive(Drop)]
+#[derive(Clone, Copy)]
 pub(crate) struct Told {
     pub refusal: u8,
     pub walk: Walk,
@@ -37,14 +37,14 @@ pub(crate) struct Told {
 }
 
 // What a line sends: N, which is 0 where the line is bad.
-#[derive(Drop)]
+#[derive(Clone, Copy)]
 pub(crate) struct Sent {
     pub ok: bool,
     pub value: u32,
 }
 
 // The numbering after a line, and how many octets its answer has.
-#[derive(Drop)]
+#[derive(Clone, Copy)]
 pub(crate) struct Stepped {
     pub numbering: Numbering,
     pub written: usize,

@@ -1,0 +1,115 @@
+-- `pair::chain::code` meets its contract. The loop's invariant: `a` and `b` are A and B after n blocks. The measure is what is left of the blocks.
+-- Assumes nothing.
+use Rattle.std.proofs.Common.{rules}
+use Prim.Native.Nat.{ℕ, zero, suc, ◌+◌, ◌-◌, ◌^◌, ◌≤◌, ◌<◌}
+use native.Mathlib.Decide.{dec_lt}
+use native.Mathlib.Numerals.{add-one}
+use native.Mathlib.Omega.{arith}
+use mathlib.Core.Path.{◌≡◌, refl, sym, ap, ap₂, subst, ◌∙◌}
+use mathlib.Core.List.{List}
+use lib.Bits.{bit_xor, xor_lt}
+use lib.Dec.{lit<}
+use lib.ListN.{length, get_or, replicate, get_or-eq_default}
+use Rattle.octets.specs.Octets.{AreOctets}
+use Rattle.octets.specs.Xor.{xored}
+use Rattle.octets.proofs.Listed.{get_or-listed}
+use Rattle.octets.proofs.Xored.{length-xored}
+use Rattle.kasumi.specs.Kasumi.{left, kasumi}
+use Rattle.kasumi.specs.Lent.{round_words, ciphered_by}
+use Rattle.kasumi.proofs.Lent.{ciphered_kasumi}
+use Rattle.pair.specs.F9.{zeros_after, padded, block_of, chained, gathered, modifier, code_of, f9_code}
+use Rattle.pair.proofs.Padded.{length-padded}
+use Rattle.pair.proofs.chain.code.Invariants.{Chained}
+use Rattle.pair.proofs.chain.code.Goals.{At-loop-n}
+use Rattle.pair.proofs.chain.code.Goals as goal
+
+-- A and B after one block more
+chained_next : (key string : List ℕ) (n : ℕ) → chained key string (n + 1) ≡ kasumi key (bit_xor (chained key string n) (block_of string n))
+unfolding chained
+chained_next key string n = rw (add-one n)
+
+gathered_next : (key string : List ℕ) (n : ℕ) → gathered key string (n + 1) ≡ bit_xor (gathered key string n) (chained key string (n + 1))
+unfolding gathered
+gathered_next key string n = rw (add-one n)
+
+modifier_octets : (n i : ℕ) → get_or (replicate n 0xAA) i 0 < 256
+modifier_octets zero i = lit< tt
+modifier_octets (suc n) zero = lit< tt
+modifier_octets (suc n) (suc i) = modifier_octets n i
+
+-- the key xor KM is octets, as the key is
+modified_octets : (key : List ℕ) → AreOctets key → AreOctets (xored key modifier)
+unfolding xored modifier
+modified_octets key each i =
+    elim (dec_lt i (length key)) [
+      | yes inside ↦
+          subst (λ (x : ℕ). x < 256) (sym (get_or-listed (λ k. bit_xor (get_or key k 0) (get_or modifier k 0)) (length key) i 0 inside))
+          (xor_lt 8 (get_or key i 0) (get_or modifier i 0) (each i) (modifier_octets 16 i))
+      | no outside ↦
+          subst (λ (x : ℕ). x < 256) (sym (get_or-eq_default (xored key modifier) 0 {n = i} (omega (arith, length-xored key modifier)))) (lit< tt)
+    ]
+
+-- where the round keys are prepared, and the start
+abbrev key : At-loop-n → List ℕ
+key c = c.before.before.before.before.before.before.before.before.before.args.key.now
+
+abbrev string : At-loop-n → List ℕ
+string c = padded c.before.before.before.before.before.before.before.before.before.args.inputs c.before.before.before.before.before.before.before.before.before.args.message.now c.before.before.before.before.before.before.before.before.before.args.bits
+
+-- the key is octets
+each : (c : At-loop-n) (i : ℕ) → get_or (key c) i 0 < 256
+each c i = omega (arith, c.shared_slice_known-1.given i)
+
+-- by the table and the round keys of the key, the cipher is KASUMI under the key
+under_key : (c : At-loop-n) (x : ℕ) → x < 2 ^ 64
+    → ciphered_by c.fi_table-table.result c.round_keys-words.result x ≡ kasumi (key c) x
+under_key c x fits =
+    ap₂ (λ (table words : List ℕ). ciphered_by table words x) c.fi_table-table.ensures c.round_keys-words.ensures
+    ∙ ciphered_kasumi (key c) (each c) x fits
+
+-- and by those of the modified key, KASUMI under that
+under_modified : (c : At-loop-n) (x : ℕ) → x < 2 ^ 64
+    → ciphered_by c.fi_table-table.result c.round_keys-last.result x ≡ kasumi (xored (key c) modifier) x
+under_modified c x fits =
+    ap₂ (λ (table words : List ℕ). ciphered_by table words x) c.fi_table-table.ensures
+    (c.round_keys-last.ensures ∙ ap (λ (k : List ℕ). round_words k 8) c.modified-changed.ensures)
+    ∙ ciphered_kasumi (xored (key c) modifier) (modified_octets (key c) (each c)) x fits
+
+pub loop-n-init : goal.loop-n-init
+unfolding chained gathered
+loop-n-init c = record { within = search rules; a_is = refl; a_fits = lit< tt; b_is = refl; b_fits = lit< tt }
+
+pub block-requires : goal.block-requires
+unfolding zeros_after
+block-requires c = search rules
+
+pub loop-n-preserved : goal.loop-n-preserved
+loop-n-preserved c =
+    let n : ℕ = c.loop-n.n in
+    let block : ℕ = c.block.result in
+    let x : ℕ = bit_xor c.loop-n.a block in
+    let fits : x < 2 ^ 64 = xor_lt 64 c.loop-n.a block c.loop-n.invariant.a_fits (omega arith) in
+    let next : c.cipher_block-a.result ≡ chained (key (goal.at.loop-n-preserved c).At-loop-n) (string (goal.at.loop-n-preserved c).At-loop-n) (n + 1) =
+    c.cipher_block-a.ensures
+    ∙ under_key (goal.at.loop-n-preserved c).At-loop-n x fits
+    ∙ ap₂ (λ (a block : ℕ). kasumi (key (goal.at.loop-n-preserved c).At-loop-n) (bit_xor a block)) c.loop-n.invariant.a_is c.block.ensures
+    ∙ sym (chained_next (key (goal.at.loop-n-preserved c).At-loop-n) (string (goal.at.loop-n-preserved c).At-loop-n) n) in
+    record {
+      within = search rules;
+      a_is = next;
+      a_fits = omega arith;
+      b_is = ap₂ bit_xor c.loop-n.invariant.b_is next ∙ sym (gathered_next (key (goal.at.loop-n-preserved c).At-loop-n) (string (goal.at.loop-n-preserved c).At-loop-n) n);
+      b_fits = xor_lt 64 c.loop-n.b c.cipher_block-a.result c.loop-n.invariant.b_fits (omega arith);
+    }
+
+pub returns : goal.returns
+unfolding f9_code code_of
+returns c =
+    let inputs = c.args.inputs in
+    let message : List ℕ = c.args.message.now in
+    let bits : ℕ = c.args.bits in
+    ap (left 32)
+    (c.cipher_block.ensures
+    ∙ under_modified (goal.at.returns c).At-loop-n c.loop-n.b c.loop-n.invariant.b_fits
+    ∙ ap (kasumi (xored (key (goal.at.returns c).At-loop-n) modifier))
+    (c.loop-n.invariant.b_is ∙ ap (gathered (key (goal.at.returns c).At-loop-n) (string (goal.at.returns c).At-loop-n)) (omega (arith, c.blocks-count.ensures, length-padded inputs message bits))))

@@ -1,0 +1,74 @@
+-- `pair::string::block` meets its contract: COUNT and FRESH, a block of the message alone, the 1 alone, or what is left of the message and its ending.
+-- Assumes nothing.
+use Rattle.std.proofs.Common.{rules}
+use Prim.Native.Nat.{ℕ, ◌+◌, ◌-◌, ◌*◌, ◌^◌}
+use native.Mathlib.Omega.{arith}
+use mathlib.Core.Path.{◌≡◌, sym, ap, ◌∙◌}
+use mathlib.Core.List.{List}
+use Rattle.octets.specs.Bits.{bit_of, size}
+use Rattle.octets.proofs.Number.{number_ext}
+use Rattle.pair.specs.F9.{padded, block_of}
+use Rattle.pair.proofs.Blocks.{block_lt, first_block, message_block, one_block, full_block, ended_block}
+use Rattle.pair.proofs.string.block.Goals.{After-struct_known-2-1, After-struct_known-then-left-eq63-1}
+use Rattle.pair.proofs.string.block.Goals as goal
+
+-- where 63 bits of the message are left, they and DIRECTION are the block; where fewer are, the 1 and zeros follow
+full : (c : After-struct_known-then-left-eq63-1) → let given = c.args in
+    block_of (padded given.inputs given.message.now given.bits) given.n ≡ c.rest-first.result + given.inputs.direction
+full c =
+    let given = c.args in
+    let start : ℕ = 64 * (given.n - 1) in
+    full_block given.inputs given.message.now given.bits given.n start (omega arith) (given.bits - start) (omega arith) (omega arith) (omega arith)
+    ∙ ap (λ (x : ℕ). x + given.inputs.direction) (sym c.rest-first.ensures)
+
+ended : (c : After-struct_known-2-1) → let given = c.args in
+    block_of (padded given.inputs given.message.now given.bits) given.n
+    ≡ c.rest-first.result + (2 * given.inputs.direction + 1) * 2 ^ (62 - (given.bits - 64 * (given.n - 1)))
+ended c =
+    let given = c.args in
+    let start : ℕ = 64 * (given.n - 1) in
+    ended_block given.inputs given.message.now given.bits given.n start (omega arith) (given.bits - start) (omega arith) (omega arith) (omega arith)
+    ∙ ap (λ (x : ℕ). x + (2 * given.inputs.direction + 1) * 2 ^ (62 - (given.bits - start))) (sym c.rest-first.ensures)
+
+pub returns-then-n-eq0 : goal.returns-then-n-eq0
+returns-then-n-eq0 c =
+    let given = c.args in
+    let string : List ℕ = padded given.inputs given.message.now given.bits in
+    let zeroth : given.n ≡ 0 = omega arith in
+    omega (arith, c.well_formed.0, first_block given.inputs given.message.now given.bits (omega (arith, c.well_formed.0)) (omega (arith, c.well_formed.0)), ap (block_of string) zeroth)
+
+pub word-requires : goal.word-requires
+unfolding size
+word-requires c = search rules
+
+pub returns-then-start-bits : goal.returns-then-start-bits
+returns-then-start-bits c =
+    let given = c.args in
+    let message : List ℕ = given.message.now in
+    let start : ℕ = 64 * (given.n - 1) in
+    c.word.ensures
+    ∙ number_ext _ _ 64 (λ j below. ap (bit_of message) {y = start + j} (omega arith))
+    ∙ sym (message_block given.inputs message given.bits given.n start (omega arith) (omega arith))
+
+pub returns-then-bits-start : goal.returns-then-bits-start
+returns-then-bits-start c =
+    let given = c.args in
+    sym (one_block given.inputs given.message.now given.bits given.n (64 * (given.n - 1)) (omega arith) (omega arith))
+
+pub overflow_add-result-then-left-eq63 : goal.overflow_add-result-then-left-eq63
+overflow_add-result-then-left-eq63 c =
+    let given = c.args in
+    omega (arith, full c, block_lt given.inputs given.message.now given.bits given.n)
+
+pub returns-then-left-eq63 : goal.returns-then-left-eq63
+returns-then-left-eq63 c = sym (full c)
+
+pub overflow_add-result-3 : goal.overflow_add-result-3
+overflow_add-result-3 c =
+    let given = c.args in
+    omega (arith, ended c, block_lt given.inputs given.message.now given.bits given.n)
+
+pub returns : goal.returns
+returns c =
+    let given = c.args in
+    omega (arith, ended c, block_lt given.inputs given.message.now given.bits given.n)

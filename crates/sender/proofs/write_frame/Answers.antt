@@ -1,0 +1,21 @@
+-- `sender::write_frame` meets its contract: the header at the front, which is in range, and the ciphered payload in the part after it.
+-- Assumes nothing.
+use native.Mathlib.Omega.{arith}
+use lib.ListN.{length-take, length-drop}
+use Rattle.frames.proofs.Laws.{header_done}
+use Rattle.link.specs.Link.{header_at}
+use Rattle.link.proofs.Frames.{header_at_range}
+use Rattle.link.proofs.Links.{cipher_done}
+use Rattle.sender.proofs.Sealing.{frame_written}
+use Rattle.sender.proofs.write_frame.Goals as goal
+
+pub returns : goal.returns
+unfolding header_at
+returns c =
+    let given = c.args in
+    let good = c.requires.0 in
+    let sizes = c.requires.1 in
+    frame_written given.link given.number given.payload.now given.output.now _ _
+    (header_done (header_at given.link given.number) _ given.output.now c.put_header.ensures (header_at_range given.link given.number good) sizes.0 sizes.1.0 (omega arith)).1
+    sizes.1.1
+    (cipher_done given.link given.number given.payload.now _ c.cipher.ensures good sizes.0 sizes.1.0 (simp (length-take, length-drop) (omega arith))).1
