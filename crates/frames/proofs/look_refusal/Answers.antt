@@ -12,14 +12,14 @@ use Rattle.frames.proofs.look_refusal.Goals as goal
 
 -- past each test its cause does not hold
 whole : (c : Else-not-is_whole) → is_whole c.args.frame.now ≡ true
-whole c = sym c.is_whole.ensures ∙ not-false _ c.if-not-is_whole.false-raw
+whole c = sym c.is_whole.ensures ∙ c.if-not-is_whole.false
 
 version : (c : Else-octet_or_zero-ne-VERSION) → eqb (get_or c.args.frame.now 2 0) 1 ≡ true
 version c = eq-eqb _ _ (rw c.octet_or_zero.ensures at c.if-octet_or_zero-ne-VERSION.false)
 
 pub returns-then-not-is_whole : goal.returns-then-not-is_whole
 unfolding first look_order
-returns-then-not-is_whole c = record { refusal_is = simp (sym c.is_whole.ensures ∙ not-true _ c.if-not-is_whole.true-raw); numbers_are = refl; lent_is = refl }
+returns-then-not-is_whole c = record { refusal_is = simp (sym c.is_whole.ensures ∙ c.if-not-is_whole.true); numbers_are = refl; lent_is = refl }
 
 pub returns-then-octet_or_zero-ne-VERSION : goal.returns-then-octet_or_zero-ne-VERSION
 unfolding first look_order
@@ -30,7 +30,7 @@ unfolding first look_order
 returns-then-not-has_zero_bits c = record {
   refusal_is =
       simp
-      (whole (goal.at.returns-then-not-has_zero_bits c).Else-not-is_whole, version (goal.at.returns-then-not-has_zero_bits c).Else-octet_or_zero-ne-VERSION, sym c.has_zero_bits.ensures ∙ not-true _ c.if-not-has_zero_bits.true-raw);
+      (whole (goal.at.returns-then-not-has_zero_bits c).Else-not-is_whole, version (goal.at.returns-then-not-has_zero_bits c).Else-octet_or_zero-ne-VERSION, sym c.has_zero_bits.ensures ∙ c.if-not-has_zero_bits.true);
   numbers_are = refl;
   lent_is = refl;
 }
@@ -40,7 +40,7 @@ unfolding first look_order
 returns c = record {
   refusal_is =
       simp
-      (whole (goal.at.returns c).Else-not-is_whole, version (goal.at.returns c).Else-octet_or_zero-ne-VERSION, sym c.has_zero_bits.ensures ∙ not-false _ c.if-not-has_zero_bits.false-raw);
+      (whole (goal.at.returns c).Else-not-is_whole, version (goal.at.returns c).Else-octet_or_zero-ne-VERSION, sym c.has_zero_bits.ensures ∙ c.if-not-has_zero_bits.false);
   numbers_are = refl;
   lent_is = refl;
 }

@@ -14,7 +14,7 @@ use Rattle.frames.proofs.put_header.Goals as goal
 
 -- past the first test the header is in range
 in_range : (c : Else-not-is_header) → is_header c.args.header ≡ true
-in_range c = sym c.is_header.ensures ∙ not-false _ c.if-not-is_header.false-raw
+in_range c = sym c.is_header.ensures ∙ c.if-not-is_header.false
 
 -- past the first three, the room decides
 causes : (c : Else-size-gt-MOST_PAYLOAD) → let given = c.args in
@@ -24,7 +24,7 @@ causes c = simp (in_range (goal.at.Else-size-gt-MOST_PAYLOAD c).Else-not-is_head
 
 pub returns-then-not-is_header : goal.returns-then-not-is_header
 unfolding first header_order
-returns-then-not-is_header c = record { refusal_is = simp (sym c.is_header.ensures ∙ not-true _ c.if-not-is_header.true-raw); numbers_are = refl; lent_is = refl }
+returns-then-not-is_header c = record { refusal_is = simp (sym c.is_header.ensures ∙ c.if-not-is_header.true); numbers_are = refl; lent_is = refl }
 
 pub returns-then-size-eq0 : goal.returns-then-size-eq0
 unfolding first header_order

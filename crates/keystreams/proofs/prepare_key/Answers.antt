@@ -19,11 +19,11 @@ use Rattle.keystreams.proofs.prepare_key.Goals as goal
 
 -- past the first test the key is one
 key_right : (c : Else-not-is_key) → is_key c.args.key.now ≡ true
-key_right c = sym c.is_key.ensures ∙ not-false _ c.if-not-is_key.false-raw
+key_right c = sym c.is_key.ensures ∙ c.if-not-is_key.false
 
 pub returns-then-not-is_key : goal.returns-then-not-is_key
 unfolding first key_order
-returns-then-not-is_key c = record { refusal_is = rw (sym c.is_key.ensures ∙ not-true _ c.if-not-is_key.true-raw); numbers_are = refl; lent_is = refl }
+returns-then-not-is_key c = record { refusal_is = rw (sym c.is_key.ensures ∙ c.if-not-is_key.true); numbers_are = refl; lent_is = refl }
 
 pub loop-i-init : goal.loop-i-init
 loop-i-init c = (key_most _ (key_right c), filled_none _)

@@ -42,21 +42,21 @@ turn f g before old new at size start end is same put =
 
 -- where the round keys are prepared, where the octets are counted, and the start
 abbrev before : At-loop-n → List ℕ
-before c = c.before.before.before.before.before.before.before.before.before.before.before.before.before.args.output.now
+before c = c.args.output.now
 
 abbrev key : At-loop-n → List ℕ
-key c = c.before.before.before.before.before.before.before.before.before.before.before.before.before.args.key.now
+key c = c.args.key.now
 
 abbrev a : At-loop-n → ℕ
-a c = c.before.before.register-a.result
+a c = c.register_a-a.result
 
 -- how many octets are asked for
 abbrev octets : At-loop-n → ℕ
-octets c = c.before.before.before.before.before.before.before.before.before.before.size.result
+octets c = c.size-size.result
 
 -- the key is octets
 each : (c : At-loop-n) (i : ℕ) → get_or (key c) i 0 < 256
-each c i = omega (arith, c.shared_slice_known-1.given i)
+each c i = omega (arith, c.type_inv.key i)
 
 -- the output with the first k octets of the blocks at its front
 abbrev filled : At-loop-n → ℕ → List ℕ

@@ -14,6 +14,7 @@ use Rattle.octets.proofs.Octets.{whole_key}
 use Rattle.octets.proofs.Stored.{front_stored}
 use Rattle.kgcore.specs.Kgcore.{key_bit, kgcore_order}
 use Rattle.kgcore.proofs.kgcore.Goals.{Else-cl-gt-MOST_BITS, Else-inputs-gt1, Else-key-ne16, Joined-then-cl-eq0, Joined-then-inputs-gt31}
+use Prim.Native.Nat.{◌<◌}
 use Rattle.kgcore.proofs.kgcore.Goals as goal
 
 key_right : (c : Else-key-ne16) → is_whole_key c.args.key.now ≡ true
@@ -21,19 +22,19 @@ key_right c = (whole_key c.args.key.now).1 c.if-key-ne16.false
 
 range_wrong : (c : Joined-then-inputs-gt31)
     → let inputs = c.args.inputs in (ltb 31 inputs.cb || ltb 1 inputs.cd) ≡ true
-range_wrong c = ⊎_elim (λ w. rw (lt-ltb _ _ w.taken)) (λ w. ap₂ ◌||◌ (le-ltb _ _ w.0.left) w.2.taken) c.then-inputs-gt31.branch
+range_wrong c = ⊎_elim (λ (w : 31 < c.args.inputs.cb). rw (lt-ltb 31 c.args.inputs.cb w)) (λ w. ap₂ ◌||◌ (le-ltb _ _ w.0) (lt-ltb _ _ w.1)) c.then-inputs-gt31.either
 
 range_right : (c : Else-inputs-gt1)
     → let inputs = c.args.inputs in (ltb 31 inputs.cb || ltb 1 inputs.cd) ≡ false
-range_right c = ap₂ ◌||◌ (le-ltb _ _ c.if-inputs-gt31.false) c.if-inputs-gt1.false-raw
+range_right c = ap₂ ◌||◌ (le-ltb _ _ c.if-inputs-gt31.false) (le-ltb _ _ c.if-inputs-gt1.false)
 
 size_wrong : (c : Joined-then-cl-eq0)
     → let cl = c.args.cl in (eqb cl 0 || ltb 524288 cl) ≡ true
-size_wrong c = ⊎_elim (λ w. rw (eq-eqb _ _ w.taken)) (λ w. ap₂ ◌||◌ (ne_eqb _ _ w.0.left) w.1.taken) c.then-cl-eq0.branch
+size_wrong c = ⊎_elim (λ (w : c.args.cl ≡ 0). rw (eq-eqb c.args.cl 0 w)) (λ w. ap₂ ◌||◌ (ne_eqb _ _ w.0) (lt-ltb _ _ w.1)) c.then-cl-eq0.either
 
 size_right : (c : Else-cl-gt-MOST_BITS)
     → let cl = c.args.cl in (eqb cl 0 || ltb 524288 cl) ≡ false
-size_right c = ap₂ ◌||◌ (ne_eqb _ _ c.if-cl-eq0.false) c.if-cl-gt-MOST_BITS.false-raw
+size_right c = ap₂ ◌||◌ (ne_eqb _ _ c.if-cl-eq0.false) (le-ltb _ _ c.if-cl-gt-MOST_BITS.false)
 
 -- past the first three, the room decides
 room_decides : (c : Else-cl-gt-MOST_BITS)

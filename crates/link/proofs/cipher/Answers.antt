@@ -9,7 +9,7 @@ use Rattle.link.proofs.cipher.Goals as goal
 
 -- past the first test the link can arise
 good : (c : Else-not-can_arise) → link_can_arise c.args.link ≡ true
-good c = sym c.can_arise.ensures ∙ not-false _ c.if-not-can_arise.false-raw
+good c = sym c.can_arise.ensures ∙ c.if-not-can_arise.false
 
 -- past the first two, the room decides
 causes : (c : Else-payload-gt-MOST_PAYLOAD) → let given = c.args in
@@ -19,7 +19,7 @@ causes c = simp (good (goal.at.Else-payload-gt-MOST_PAYLOAD c).Else-not-can_aris
 
 pub returns-then-not-can_arise : goal.returns-then-not-can_arise
 unfolding first cipher_order
-returns-then-not-can_arise c = record { refusal_is = simp (sym c.can_arise.ensures ∙ not-true _ c.if-not-can_arise.true-raw); numbers_are = refl; lent_is = refl }
+returns-then-not-can_arise c = record { refusal_is = simp (sym c.can_arise.ensures ∙ c.if-not-can_arise.true); numbers_are = refl; lent_is = refl }
 
 pub returns-then-payload-eq0 : goal.returns-then-payload-eq0
 unfolding first cipher_order is_payload

@@ -31,7 +31,7 @@ pub returns-then-not-is_service-is_direction : goal.returns-then-not-is_service-
 unfolding first link_order
 returns-then-not-is_service-is_direction c =
     record {
-      refusal_is = simp ((key_right (goal.at.returns-then-not-is_service-is_direction c).Else-prepared-ne0).0, sym (range_is (goal.at.returns-then-not-is_service-is_direction c).After-is_direction) ∙ not-true _ c.if-not-is_service-is_direction.true-raw);
+      refusal_is = simp ((key_right (goal.at.returns-then-not-is_service-is_direction c).Else-prepared-ne0).0, sym (range_is (goal.at.returns-then-not-is_service-is_direction c).After-is_direction) ∙ c.if-not-is_service-is_direction.true);
       numbers_are = refl;
       lent_is = c.no_link-then-not-is_service-is_direction.ensures;
     }
@@ -42,7 +42,7 @@ returns c =
     let given = c.args in
     let key_is = (key_right (goal.at.returns c).Else-prepared-ne0).1 in
     record {
-      refusal_is = simp ((key_right (goal.at.returns c).Else-prepared-ne0).0, sym (range_is (goal.at.returns c).After-is_direction) ∙ not-false _ c.if-not-is_service-is_direction.false-raw);
+      refusal_is = simp ((key_right (goal.at.returns c).Else-prepared-ne0).0, sym (range_is (goal.at.returns c).After-is_direction) ∙ c.if-not-is_service-is_direction.false);
       numbers_are = refl;
       lent_is = λ i. record { key = key_is i; iov = given.iov; sapi = given.sapi; direction = given.direction };
     }

@@ -11,23 +11,23 @@ use Rattle.refusals.specs.Refusal.{first}
 use Rattle.refusals.specs.Call.{front}
 use Rattle.milenage.specs.Calls.{is_string, are_numbers, code_order}
 use Rattle.milenage.proofs.Sizes.{three_sizes, number_sizes}
-use Rattle.milenage.proofs.code.Goals.{After-are_numbers, After-are_strings, Else-not-are_numbers, Else-not-are_strings}
+use Rattle.milenage.proofs.code.Goals.{Else-not-are_numbers, Else-not-are_strings}
 use Rattle.milenage.proofs.code.Goals as goal
 
 strings_right : (c : Else-not-are_strings) → let given = c.args in (is_string given.key.now && is_string given.opc.now && is_string given.rand.now) ≡ true
-strings_right c = sym c.are_strings.ensures ∙ not-false _ c.if-not-are_strings.false-raw
+strings_right c = sym c.are_strings.ensures ∙ c.if-not-are_strings.false
 
 numbers_right : (c : Else-not-are_numbers) → let given = c.args in are_numbers given.sqn.now given.amf.now ≡ true
-numbers_right c = sym c.are_numbers.ensures ∙ not-false _ c.if-not-are_numbers.false-raw
+numbers_right c = sym c.are_numbers.ensures ∙ c.if-not-are_numbers.false
 
 pub returns-then-not-are_strings : goal.returns-then-not-are_strings
 unfolding first code_order
-returns-then-not-are_strings c = record { refusal_is = rw (sym c.are_strings.ensures ∙ not-true _ c.if-not-are_strings.true-raw); numbers_are = refl; lent_is = refl }
+returns-then-not-are_strings c = record { refusal_is = rw (sym c.are_strings.ensures ∙ c.if-not-are_strings.true); numbers_are = refl; lent_is = refl }
 
 pub returns-then-not-are_numbers : goal.returns-then-not-are_numbers
 unfolding first code_order
 returns-then-not-are_numbers c =
-    record { refusal_is = rw (strings_right (goal.at.returns-then-not-are_numbers c).Else-not-are_strings, sym c.are_numbers.ensures ∙ not-true _ c.if-not-are_numbers.true-raw); numbers_are = refl; lent_is = refl }
+    record { refusal_is = rw (strings_right (goal.at.returns-then-not-are_numbers c).Else-not-are_strings, sym c.are_numbers.ensures ∙ c.if-not-are_numbers.true); numbers_are = refl; lent_is = refl }
 
 pub returns-then-output-lt8 : goal.returns-then-output-lt8
 unfolding first code_order
@@ -43,7 +43,7 @@ returns c =
     let given = c.before.args in
     let all : given.start + 8 - given.start ≡ 8 = omega arith in
     record {
-      refusal_is = rw (strings_right (goal.at.returns c).After-are_strings, numbers_right (goal.at.returns c).After-are_numbers, le-ltb _ _ c.if-output-lt8.false);
+      refusal_is = rw (strings_right (goal.at.returns c).Else-not-are_strings, numbers_right (goal.at.returns c).Else-not-are_numbers, le-ltb _ _ c.if-output-lt8.false);
       numbers_are = refl;
       lent_is =
           c.put.ensures

@@ -18,11 +18,11 @@ asked : (c : After-is_string-2)
 asked c = ap₂ ◌&&◌ c.is_string.ensures c.is_string-2.ensures
 
 strings_right : (c : Else-not-is_string) → let given = c.args in (is_string given.key.now && is_string given.op.now) ≡ true
-strings_right c = sym (asked (goal.at.Else-not-is_string c).After-is_string-2) ∙ not-false _ c.if-not-is_string.false-raw
+strings_right c = sym (asked (goal.at.Else-not-is_string c).After-is_string-2) ∙ c.if-not-is_string.false
 
 pub returns-then-not-is_string : goal.returns-then-not-is_string
 unfolding first opc_order
-returns-then-not-is_string c = record { refusal_is = rw (sym (asked (goal.at.returns-then-not-is_string c).After-is_string-2) ∙ not-true _ c.if-not-is_string.true-raw); numbers_are = refl; lent_is = refl }
+returns-then-not-is_string c = record { refusal_is = rw (sym (asked (goal.at.returns-then-not-is_string c).After-is_string-2) ∙ c.if-not-is_string.true); numbers_are = refl; lent_is = refl }
 
 pub returns-then-output-lt16 : goal.returns-then-output-lt16
 unfolding first opc_order

@@ -11,15 +11,15 @@ use Rattle.refusals.specs.Refusal.{first}
 use Rattle.refusals.specs.Call.{front}
 use Rattle.milenage.specs.Calls.{is_string, result_order}
 use Rattle.milenage.proofs.Sizes.{three_sizes}
-use Rattle.milenage.proofs.result.Goals.{After-are_strings, Else-not-are_strings}
+use Rattle.milenage.proofs.result.Goals.{Else-not-are_strings}
 use Rattle.milenage.proofs.result.Goals as goal
 
 strings_right : (c : Else-not-are_strings) → let given = c.args in (is_string given.key.now && is_string given.opc.now && is_string given.rand.now) ≡ true
-strings_right c = sym c.are_strings.ensures ∙ not-false _ c.if-not-are_strings.false-raw
+strings_right c = sym c.are_strings.ensures ∙ c.if-not-are_strings.false
 
 pub returns-then-not-are_strings : goal.returns-then-not-are_strings
 unfolding first result_order
-returns-then-not-are_strings c = record { refusal_is = rw (sym c.are_strings.ensures ∙ not-true _ c.if-not-are_strings.true-raw); numbers_are = refl; lent_is = refl }
+returns-then-not-are_strings c = record { refusal_is = rw (sym c.are_strings.ensures ∙ c.if-not-are_strings.true); numbers_are = refl; lent_is = refl }
 
 pub returns-then-output-size : goal.returns-then-output-size
 unfolding first result_order
@@ -34,7 +34,7 @@ returns c =
     let given = c.before.args in
     let all : given.part.start + given.part.size - given.part.start ≡ given.part.size = omega arith in
     record {
-      refusal_is = rw (strings_right (goal.at.returns c).After-are_strings, le-ltb _ _ c.if-output-size.false);
+      refusal_is = rw (strings_right (goal.at.returns c).Else-not-are_strings, le-ltb _ _ c.if-output-size.false);
       numbers_are = refl;
       lent_is =
           c.put.ensures

@@ -10,17 +10,17 @@ use native.Mathlib.Nat.{min-eq_left, min-eq_right, le_of_lt, div-one}
 use lib.Dec.{ltb}
 use Rattle.numbering.specs.Numbering.{width, end, marks_of, mark, can_arise}
 use Rattle.numbering.proofs.Masks.{below_shift, past_shift}
-use Rattle.numbering.proofs.can_arise.Goals.{Joined-next-lt-WIDTH}
+use Rattle.numbering.proofs.can_arise.Goals.{Joined-next-lt-WIDTH, then-next-lt-WIDTH+else-marks-next-gt0, else-next-lt-WIDTH}
 use Rattle.numbering.proofs.can_arise.Goals as goal
 
 -- where the branches meet, the marks are in the window
 within : (c : Joined-next-lt-WIDTH) → ltb c.args.numbering.marks (2 ^ min width c.args.numbering.next) ≡ true
 within c =
     let state = c.args.numbering in
-    ⊎_elim
-    (λ way. rw (min-eq_right {m = width} (le_of_lt way.0.taken)) (lt-ltb _ _ (below_shift state.marks state.next way.1.left)))
-    (λ way. rw (min-eq_left {n = width} way.left) (lt-ltb state.marks (2 ^ width) (omega arith)))
-    c.if-next-lt-WIDTH.branch
+    elim c.if-next-lt-WIDTH.branch [
+      then-next-lt-WIDTH+else-marks-next-gt0 w ↦ rw (min-eq_right {m = width} (le_of_lt w.if-next-lt-WIDTH.true)) (lt-ltb _ _ (below_shift state.marks state.next w.if-marks-next-gt0.false))
+    | else-next-lt-WIDTH w ↦ rw (min-eq_left {n = width} w.if-next-lt-WIDTH.false) (lt-ltb state.marks (2 ^ width) (omega arith))
+    ]
 
 pub returns-then-next-gt-END : goal.returns-then-next-gt-END
 unfolding can_arise end

@@ -18,7 +18,7 @@ use Rattle.numbering.proofs.number.Goals as goal
 
 -- past the first test the state can arise
 can : (c : Else-not-can_arise) → can_arise width c.args.numbering ≡ true
-can c = sym c.can_arise.ensures ∙ not-false _ c.if-not-can_arise.false-raw
+can c = sym c.can_arise.ensures ∙ c.if-not-can_arise.false
 
 -- past the second test the candidate decides
 module _ (c : After-raised-raised) where
@@ -60,7 +60,7 @@ pub returns-then-not-can_arise : goal.returns-then-not-can_arise
 returns-then-not-can_arise c =
     let at = c.args in
     step_refused width at.numbering at.sent 12
-    (step_12 width at.numbering at.sent (sym c.can_arise.ensures ∙ not-true _ c.if-not-can_arise.true-raw))
+    (step_12 width at.numbering at.sent (sym c.can_arise.ensures ∙ c.if-not-can_arise.true))
     (eqb-false 12 0 refl) refl c.refused.ensures
 
 pub returns-then-sent-gt511 : goal.returns-then-sent-gt511

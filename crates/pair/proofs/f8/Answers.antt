@@ -16,21 +16,22 @@ use Rattle.pair.specs.F8.{f8_order}
 use Rattle.pair.proofs.Message.{some_bits, most_bits}
 use Rattle.pair.proofs.f8.Goals.{Else-inputs-gt1, Else-not-is_bit_count, Else-not-is_whole_key, Joined-then-inputs-gt31}
 use Rattle.pair.proofs.f8.Goals as goal
+use Prim.Native.Nat.{◌<◌}
 
 key_right : (c : Else-not-is_whole_key) → is_whole_key c.args.key.now ≡ true
-key_right c = sym c.is_whole_key.ensures ∙ not-false _ c.if-not-is_whole_key.false-raw
+key_right c = sym c.is_whole_key.ensures ∙ c.if-not-is_whole_key.false
 
 range_wrong : (c : Joined-then-inputs-gt31)
     → let inputs = c.args.inputs in (ltb 31 inputs.bearer || ltb 1 inputs.direction) ≡ true
-range_wrong c = ⊎_elim (λ w. rw (lt-ltb _ _ w.taken)) (λ w. ap₂ ◌||◌ (le-ltb _ _ w.0.left) w.2.taken) c.then-inputs-gt31.branch
+range_wrong c = ⊎_elim (λ (w : 31 < c.args.inputs.bearer). rw (lt-ltb 31 c.args.inputs.bearer w)) (λ w. ap₂ ◌||◌ (le-ltb _ _ w.0) (lt-ltb _ _ w.1)) c.then-inputs-gt31.either
 
 range_right : (c : Else-inputs-gt1)
     → let inputs = c.args.inputs in
     (ltb 31 inputs.bearer || ltb 1 inputs.direction) ≡ false
-range_right c = ap₂ ◌||◌ (le-ltb _ _ c.if-inputs-gt31.false) c.if-inputs-gt1.false-raw
+range_right c = ap₂ ◌||◌ (le-ltb _ _ c.if-inputs-gt31.false) (le-ltb _ _ c.if-inputs-gt1.false)
 
 size_right : (c : Else-not-is_bit_count) → is_bit_count c.args.bits ≡ true
-size_right c = sym c.is_bit_count.ensures ∙ not-false _ c.if-not-is_bit_count.false-raw
+size_right c = sym c.is_bit_count.ensures ∙ c.if-not-is_bit_count.false
 
 -- past the first three, the message's octets and then the room decide
 rest_decides : (c : Else-not-is_bit_count)
@@ -42,7 +43,7 @@ rest_decides c = rw (key_right (goal.at.Else-not-is_bit_count c).Else-not-is_who
 
 pub returns-then-not-is_whole_key : goal.returns-then-not-is_whole_key
 unfolding first f8_order
-returns-then-not-is_whole_key c = record { refusal_is = rw (sym c.is_whole_key.ensures ∙ not-true _ c.if-not-is_whole_key.true-raw); numbers_are = refl; lent_is = refl }
+returns-then-not-is_whole_key c = record { refusal_is = rw (sym c.is_whole_key.ensures ∙ c.if-not-is_whole_key.true); numbers_are = refl; lent_is = refl }
 
 pub returns-then-inputs-gt31 : goal.returns-then-inputs-gt31
 unfolding first f8_order
@@ -52,7 +53,7 @@ pub returns-then-not-is_bit_count : goal.returns-then-not-is_bit_count
 unfolding first f8_order
 returns-then-not-is_bit_count c =
     record {
-      refusal_is = rw (key_right (goal.at.returns-then-not-is_bit_count c).Else-not-is_whole_key, range_right (goal.at.returns-then-not-is_bit_count c).Else-inputs-gt1, sym c.is_bit_count.ensures ∙ not-true _ c.if-not-is_bit_count.true-raw);
+      refusal_is = rw (key_right (goal.at.returns-then-not-is_bit_count c).Else-not-is_whole_key, range_right (goal.at.returns-then-not-is_bit_count c).Else-inputs-gt1, sym c.is_bit_count.ensures ∙ c.if-not-is_bit_count.true);
       numbers_are = refl;
       lent_is = refl;
     }

@@ -19,13 +19,13 @@ use Rattle.pair.proofs.f9.Goals.{Else-inputs-gt1, Else-not-is_bit_count, Else-no
 use Rattle.pair.proofs.f9.Goals as goal
 
 key_right : (c : Else-not-is_whole_key) → is_whole_key c.args.key.now ≡ true
-key_right c = sym c.is_whole_key.ensures ∙ not-false _ c.if-not-is_whole_key.false-raw
+key_right c = sym c.is_whole_key.ensures ∙ c.if-not-is_whole_key.false
 
 direction_right : (c : Else-inputs-gt1) → ltb 1 c.args.inputs.direction ≡ false
 direction_right c = le-ltb _ _ c.if-inputs-gt1.false
 
 size_right : (c : Else-not-is_bit_count) → is_bit_count c.args.bits ≡ true
-size_right c = sym c.is_bit_count.ensures ∙ not-false _ c.if-not-is_bit_count.false-raw
+size_right c = sym c.is_bit_count.ensures ∙ c.if-not-is_bit_count.false
 
 -- past the first three, the message's octets decide
 message_decides : (c : Else-not-is_bit_count)
@@ -36,7 +36,7 @@ message_decides c = rw (key_right (goal.at.Else-not-is_bit_count c).Else-not-is_
 
 pub returns-then-not-is_whole_key : goal.returns-then-not-is_whole_key
 unfolding first f9_order
-returns-then-not-is_whole_key c = record { refusal_is = rw (sym c.is_whole_key.ensures ∙ not-true _ c.if-not-is_whole_key.true-raw); numbers_are = refl; lent_is = refl }
+returns-then-not-is_whole_key c = record { refusal_is = rw (sym c.is_whole_key.ensures ∙ c.if-not-is_whole_key.true); numbers_are = refl; lent_is = refl }
 
 pub returns-then-inputs-gt1 : goal.returns-then-inputs-gt1
 unfolding first f9_order
@@ -46,7 +46,7 @@ pub returns-then-not-is_bit_count : goal.returns-then-not-is_bit_count
 unfolding first f9_order
 returns-then-not-is_bit_count c =
     record {
-      refusal_is = rw (key_right (goal.at.returns-then-not-is_bit_count c).Else-not-is_whole_key, direction_right (goal.at.returns-then-not-is_bit_count c).Else-inputs-gt1, sym c.is_bit_count.ensures ∙ not-true _ c.if-not-is_bit_count.true-raw);
+      refusal_is = rw (key_right (goal.at.returns-then-not-is_bit_count c).Else-not-is_whole_key, direction_right (goal.at.returns-then-not-is_bit_count c).Else-inputs-gt1, sym c.is_bit_count.ensures ∙ c.if-not-is_bit_count.true);
       numbers_are = refl;
       lent_is = refl;
     }

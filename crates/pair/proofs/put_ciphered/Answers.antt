@@ -41,7 +41,7 @@ each : (c : After-xor) (i : ℕ) → get_or (message c) i 0 < 256
 each c i = omega (arith, c.shared_slice_known-2-1.given i)
 
 -- the octets of these bits stand at the front of the output
-put : (c : After-xor) → c.xor.new.1.1.0 ≡ listed (octet (bit c)) (size (bits c)) ++ drop (size (bits c)) (before c)
+put : (c : After-xor) → c.xor.new.output ≡ listed (octet (bit c)) (size (bits c)) ++ drop (size (bits c)) (before c)
 unfolding f8_core front size
 put c =
     let inputs = f8_core c.before.args.inputs in
@@ -49,7 +49,7 @@ put c =
     xor_put (message c) (key_bit (key c) inputs) (bits c) c.size-size.result _ _ (before c) c.xor.ensures c.size-size.ensures stream.1 (each c) (key_bit_lt (key c) inputs) (omega arith) (omega arith)
 
 -- the output keeps its length
-length-kept : (c : After-xor) → length c.xor.new.1.1.0 ≡ length (before c)
+length-kept : (c : After-xor) → length c.xor.new.output ≡ length (before c)
 length-kept c = ap length (put c) ∙ length-listed_front _ (before c) (size (bits c)) (omega arith)
 
 -- there is a last octet, and it lies within the output
@@ -65,7 +65,7 @@ unfolding size
 overflow_sub-last c = search rules
 
 pub bounds-output-last : goal.bounds-output-last
-bounds-output-last c = (goal.at.bounds-output-last c).After-xor in omega (arith, length-kept at-xor, at-xor.before.before.before.before.before.before.before.before.size.ensures, room at-xor)
+bounds-output-last c = let at_xor = (goal.at.bounds-output-last c).After-xor in omega (arith, length-kept at_xor, c.size-size.ensures, room at_xor)
 
 pub overflow_mul-last : goal.overflow_mul-last
 unfolding size
@@ -76,7 +76,7 @@ unfolding size
 overflow_sub-bits c = search rules
 
 pub bounds-output-last-2 : goal.bounds-output-last-2
-bounds-output-last-2 c = (goal.at.bounds-output-last-2 c).After-xor in omega (arith, length-kept at-xor, at-xor.before.before.before.before.before.before.before.before.size.ensures, room at-xor)
+bounds-output-last-2 c = let at_xor = (goal.at.bounds-output-last-2 c).After-xor in omega (arith, length-kept at_xor, c.size-size.ensures, room at_xor)
 
 pub returns : goal.returns
 unfolding f8_output f8_bit

@@ -26,7 +26,7 @@ module _ (c : After-can_arise) where
 
 -- past each test its cause does not hold
 good : (c : Else-not-can_arise) → receiver_can_arise width (receiver (goal.at.Else-not-can_arise c).After-can_arise) ≡ true
-good c = sym c.can_arise.ensures ∙ not-false _ c.if-not-can_arise.false-raw
+good c = sym c.can_arise.ensures ∙ c.if-not-can_arise.false
 
 nothing : (c : Else-looked-ne0) → first (look_order (octets (goal.at.Else-looked-ne0 c).After-can_arise)) ≡ 0
 nothing c = sym c.look_refusal-looked.ensures.refusal_is ∙ c.if-looked-ne0.false
@@ -34,13 +34,13 @@ nothing c = sym c.look_refusal-looked.ensures.refusal_is ∙ c.if-looked-ne0.fal
 pub returns-then-not-can_arise : goal.returns-then-not-can_arise
 returns-then-not-can_arise c =
     open_refused width (receiver (goal.at.returns-then-not-can_arise c).After-can_arise) (octets (goal.at.returns-then-not-can_arise c).After-can_arise) (before (goal.at.returns-then-not-can_arise c).After-can_arise) 12 c.not_opened.result
-    (open_12 width (receiver (goal.at.returns-then-not-can_arise c).After-can_arise) (octets (goal.at.returns-then-not-can_arise c).After-can_arise) (before (goal.at.returns-then-not-can_arise c).After-can_arise) (sym c.can_arise.ensures ∙ not-true _ c.if-not-can_arise.true-raw))
+    (open_12 width (receiver (goal.at.returns-then-not-can_arise c).After-can_arise) (octets (goal.at.returns-then-not-can_arise c).After-can_arise) (before (goal.at.returns-then-not-can_arise c).After-can_arise) (sym c.can_arise.ensures ∙ c.if-not-can_arise.true))
     (eqb-false 12 0 refl)
     c.not_opened.ensures
 
 pub returns-then-looked-ne0 : goal.returns-then-looked-ne0
 returns-then-looked-ne0 c =
-    let refused : first (look_order (octets (goal.at.returns-then-looked-ne0 c).After-can_arise)) ≡ 0 → ⊥ = rw c.look_refusal-looked.ensures.refusal_is (goal.at.returns-then-looked-ne0 c).After-can_arise c.if-looked-ne0.true in
+    let refused : first (look_order (octets (goal.at.returns-then-looked-ne0 c).After-can_arise)) ≡ 0 → ⊥ = rw c.look_refusal-looked.ensures.refusal_is at c.if-looked-ne0.true in
     open_refused width (receiver (goal.at.returns-then-looked-ne0 c).After-can_arise) (octets (goal.at.returns-then-looked-ne0 c).After-can_arise) (before (goal.at.returns-then-looked-ne0 c).After-can_arise) (first (look_order (octets (goal.at.returns-then-looked-ne0 c).After-can_arise))) c.not_opened-then-looked-ne0.result
     (open_looked width (receiver (goal.at.returns-then-looked-ne0 c).After-can_arise) (octets (goal.at.returns-then-looked-ne0 c).After-can_arise) (before (goal.at.returns-then-looked-ne0 c).After-can_arise) (good (goal.at.returns-then-looked-ne0 c).Else-not-can_arise) refused)
     refused
@@ -51,6 +51,6 @@ returns-then-looked-ne0 c =
 pub returns-then-not-is_of_link : goal.returns-then-not-is_of_link
 returns-then-not-is_of_link c =
     open_refused width (receiver (goal.at.returns-then-not-is_of_link c).After-can_arise) (octets (goal.at.returns-then-not-is_of_link c).After-can_arise) (before (goal.at.returns-then-not-is_of_link c).After-can_arise) 8 c.not_opened-then-not-is_of_link.result
-    (open_8 width (receiver (goal.at.returns-then-not-is_of_link c).After-can_arise) (octets (goal.at.returns-then-not-is_of_link c).After-can_arise) (before (goal.at.returns-then-not-is_of_link c).After-can_arise) (good (goal.at.returns-then-not-is_of_link c).Else-not-can_arise) (nothing (goal.at.returns-then-not-is_of_link c).Else-looked-ne0) (sym c.is_of_link.ensures ∙ not-true _ c.if-not-is_of_link.true-raw))
+    (open_8 width (receiver (goal.at.returns-then-not-is_of_link c).After-can_arise) (octets (goal.at.returns-then-not-is_of_link c).After-can_arise) (before (goal.at.returns-then-not-is_of_link c).After-can_arise) (good (goal.at.returns-then-not-is_of_link c).Else-not-can_arise) (nothing (goal.at.returns-then-not-is_of_link c).Else-looked-ne0) (sym c.is_of_link.ensures ∙ c.if-not-is_of_link.true))
     (eqb-false 8 0 refl)
     c.not_opened-then-not-is_of_link.ensures

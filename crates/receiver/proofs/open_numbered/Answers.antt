@@ -39,7 +39,7 @@ module _ (c : After-number-step) where
   causes = first (candidate_order width receiver.numbering (header_of octets).sent)
 
   each : AreOctets octets
-  each i = omega (arith, c.shared_slice_known-1.given i)
+  each i = omega (arith, c.type_inv.frame i)
 
   step : Answered (number_call width receiver.numbering (header_of octets).sent) c.number-step.result.refusal (c.number-step.result.number ∷ []) c.number-step.result.numbering
   step = rw c.header_of-header.ensures at c.number-step.ensures
@@ -59,13 +59,11 @@ accepted_is : (c : Else-step-ne0) → let n = candidate_of width (receiver (goal
     (c.number-step.result.number ≡ n) × (c.number-step.result.numbering ≡ accepted width (receiver (goal.at.Else-step-ne0 c).After-number-step).numbering n)
 unfolding candidate_of
 accepted_is c =
-    let (goal.at.Else-step-ne0 c).After-number-step : After-number-step = (goal.at.Else-step-ne0 c).After-number-step in
     let done = answered_done (number_call width (receiver (goal.at.Else-step-ne0 c).After-number-step).numbering (header_of (octets (goal.at.Else-step-ne0 c).After-number-step)).sent) (step (goal.at.Else-step-ne0 c).After-number-step) (sym (step (goal.at.Else-step-ne0 c).After-number-step).refusal_is ∙ c.if-step-ne0.false) in
     (head_is done.1, done.2)
 
 payload_is : (c : After-look-payload) → c.look-payload.result.now ≡ payload_of (octets (goal.at.After-look-payload c).After-number-step)
 payload_is c =
-    let (goal.at.After-look-payload c).After-number-step : After-number-step = (goal.at.After-look-payload c).After-number-step in
     c.look-payload.ensures ∙ looked_passed (octets (goal.at.After-look-payload c).After-number-step) c.requires.1.0
 
 pub returns-then-step-ne0 : goal.returns-then-step-ne0

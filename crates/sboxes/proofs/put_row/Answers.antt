@@ -8,7 +8,7 @@ use native.Mathlib.Nat.{pow-zero}
 use lib.Pow.{pow_pos}
 use Rattle.sboxes.specs.FiTable.{Filled}
 use Rattle.sboxes.proofs.Doubling.{high_fits, twice, one_more, counted}
-use Rattle.sboxes.proofs.put_row.Goals.{After-entry_of_nine, After-power-high}
+use Rattle.sboxes.proofs.put_row.Goals.{After-power-high}
 use Rattle.sboxes.proofs.put_row.Goals as goal
 
 -- the row lies within the 512 entries
@@ -20,5 +20,5 @@ loop-j-init c =
     let k : ℕ = c.args.k in (
       search rules,
       counted {n = c.power-high.result + 1} (omega (arith, c.power-high.ensures, pow-zero 2))
-          (one_more (counted (omega (arith, c.power-high.ensures)) c.requires.1) _ (omega (arith, fits (goal.at.loop-j-init c).After-entry_of_nine)) c.entry_of_nine.ensures),
+          (one_more (counted (omega (arith, c.power-high.ensures)) c.requires.1) _ (omega (arith, fits (goal.at.loop-j-init c).After-power-high)) c.entry_of_nine.ensures),
     )

@@ -7,30 +7,27 @@ use mathlib.Core.Path.{◌≡◌, refl, sym, ◌∙◌}
 use Rattle.script.specs.Quoted.{quoted}
 use Rattle.script.specs.Script.{is}
 use Rattle.script.proofs.Lines.{is_store_cell, is_cut_cell, is_restart_cell, is_no_cell}
-use Rattle.script.proofs.asked_cell.Goals.{After-is, After-is-arg-3-1, After-is-arg-4-1, After-is-arg-5-1, Else-is, Else-is-2}
+use Rattle.script.proofs.asked_cell.Goals.{Else-is, Else-is-2}
 use Rattle.script.proofs.asked_cell.Goals as goal
 
-abbrev line : After-is → List ℕ
-line c = c.before.before.before.args.line.now
-
 -- past each test the line is not its words
-no_store : (c : Else-is) → is (quoted "store cell") (line (goal.at.Else-is c).After-is) ≡ false
+no_store : (c : Else-is) → is (quoted "store cell") c.args.line.now ≡ false
 no_store c = sym c.is.ensures ∙ c.if-is.false
 
-no_cut : (c : Else-is-2) → is (quoted "cut cell") (line (goal.at.Else-is-2 c).Else-is) ≡ false
+no_cut : (c : Else-is-2) → is (quoted "cut cell") c.args.line.now ≡ false
 no_cut c = sym c.is-2.ensures ∙ c.if-is-2.false
 
 pub returns-then-is : goal.returns-then-is
-returns-then-is c = is_store_cell (line (goal.at.returns-then-is c).After-is) (sym c.is.ensures ∙ c.if-is.true)
+returns-then-is c = is_store_cell c.args.line.now (sym c.is.ensures ∙ c.if-is.true)
 
 pub returns-then-is-2 : goal.returns-then-is-2
 returns-then-is-2 c =
-    is_cut_cell (line (goal.at.returns-then-is-2 c).Else-is) (no_store (goal.at.returns-then-is-2 c).After-is-arg-3-1) (sym c.is-2.ensures ∙ c.if-is-2.true)
+    is_cut_cell c.args.line.now (no_store (goal.at.returns-then-is-2 c).Else-is) (sym c.is-2.ensures ∙ c.if-is-2.true)
 
 pub returns-then-is-3 : goal.returns-then-is-3
 returns-then-is-3 c =
-    is_restart_cell (line (goal.at.returns-then-is-3 c).After-is-arg-3-1) (no_store (goal.at.returns-then-is-3 c).After-is-arg-4-1) (no_cut (goal.at.returns-then-is-3 c).After-is-arg-5-1) (sym c.is-3.ensures ∙ c.if-is-3.true)
+    is_restart_cell c.args.line.now (no_store (goal.at.returns-then-is-3 c).Else-is) (no_cut (goal.at.returns-then-is-3 c).Else-is-2) (sym c.is-3.ensures ∙ c.if-is-3.true)
 
 pub returns : goal.returns
 returns c =
-    is_no_cell (line (goal.at.returns c).After-is-arg-3-1) (no_store (goal.at.returns c).After-is-arg-4-1) (no_cut (goal.at.returns c).After-is-arg-5-1) (sym c.is-3.ensures ∙ c.if-is-3.false)
+    is_no_cell c.args.line.now (no_store (goal.at.returns c).Else-is) (no_cut (goal.at.returns c).Else-is-2) (sym c.is-3.ensures ∙ c.if-is-3.false)

@@ -7,42 +7,39 @@ use mathlib.Core.Path.{◌≡◌, refl, sym, ap, ◌∙◌}
 use Rattle.script.specs.Quoted.{quoted}
 use Rattle.script.specs.Script.{begins, is, asked_store}
 use Rattle.script.proofs.Lines.{is_store_phone, is_tell_phone, is_cut_phone, is_restart_phone, is_no_phone}
-use Rattle.script.proofs.asked_phone.Goals.{After-begins, After-is, After-is-arg-1, After-is-arg-2-1, After-is-arg-3-1, After-is-arg-4-1, After-is-arg-5-1, Else-begins, Else-is, Else-is-2, Else-is-3}
+use Rattle.script.proofs.asked_phone.Goals.{Else-begins, Else-is, Else-is-2, Else-is-3}
 use Rattle.script.proofs.asked_phone.Goals as goal
 
-abbrev line : After-begins → List ℕ
-line c = c.before.before.before.args.line.now
-
 -- past each test the line does not begin with its words, or is not its words
-no_store : (c : Else-begins) → begins (quoted "store phone ") (line (goal.at.Else-begins c).After-begins) ≡ false
+no_store : (c : Else-begins) → begins (quoted "store phone ") c.args.line.now ≡ false
 no_store c = sym c.begins.ensures ∙ c.if-begins.false
 
-no_tell : (c : Else-is) → is (quoted "tell phone") (line (goal.at.Else-is c).Else-begins) ≡ false
+no_tell : (c : Else-is) → is (quoted "tell phone") c.args.line.now ≡ false
 no_tell c = sym c.is.ensures ∙ c.if-is.false
 
-no_cut : (c : Else-is-2) → is (quoted "cut phone") (line (goal.at.Else-is-2 c).After-is-arg-1) ≡ false
+no_cut : (c : Else-is-2) → is (quoted "cut phone") c.args.line.now ≡ false
 no_cut c = sym c.is-2.ensures ∙ c.if-is-2.false
 
-no_restart : (c : Else-is-3) → is (quoted "restart phone") (line (goal.at.Else-is-3 c).After-is-arg-2-1) ≡ false
+no_restart : (c : Else-is-3) → is (quoted "restart phone") c.args.line.now ≡ false
 no_restart c = sym c.is-3.ensures ∙ c.if-is-3.false
 
 pub returns-then-begins : goal.returns-then-begins
 returns-then-begins c =
     c.asked_store.ensures ∙ ap asked_store c.rest.ensures
-    ∙ is_store_phone (line (goal.at.returns-then-begins c).After-begins) (sym c.begins.ensures ∙ c.if-begins.true)
+    ∙ is_store_phone c.args.line.now (sym c.begins.ensures ∙ c.if-begins.true)
 
 pub returns-then-is : goal.returns-then-is
 returns-then-is c =
-    is_tell_phone (line (goal.at.returns-then-is c).Else-begins) (no_store (goal.at.returns-then-is c).After-is-arg-1) (sym c.is.ensures ∙ c.if-is.true)
+    is_tell_phone c.args.line.now (no_store (goal.at.returns-then-is c).Else-begins) (sym c.is.ensures ∙ c.if-is.true)
 
 pub returns-then-is-2 : goal.returns-then-is-2
 returns-then-is-2 c =
-    is_cut_phone (line (goal.at.returns-then-is-2 c).After-is-arg-1) (no_store (goal.at.returns-then-is-2 c).After-is-arg-2-1) (no_tell (goal.at.returns-then-is-2 c).After-is-arg-3-1) (sym c.is-2.ensures ∙ c.if-is-2.true)
+    is_cut_phone c.args.line.now (no_store (goal.at.returns-then-is-2 c).Else-begins) (no_tell (goal.at.returns-then-is-2 c).Else-is) (sym c.is-2.ensures ∙ c.if-is-2.true)
 
 pub returns-then-is-3 : goal.returns-then-is-3
 returns-then-is-3 c =
-    is_restart_phone (line (goal.at.returns-then-is-3 c).After-is-arg-2-1) (no_store (goal.at.returns-then-is-3 c).After-is) (no_tell (goal.at.returns-then-is-3 c).After-is-arg-4-1) (no_cut (goal.at.returns-then-is-3 c).After-is-arg-5-1) (sym c.is-3.ensures ∙ c.if-is-3.true)
+    is_restart_phone c.args.line.now (no_store (goal.at.returns-then-is-3 c).Else-begins) (no_tell (goal.at.returns-then-is-3 c).Else-is) (no_cut (goal.at.returns-then-is-3 c).Else-is-2) (sym c.is-3.ensures ∙ c.if-is-3.true)
 
 pub returns : goal.returns
 returns c =
-    c.asked_cell.ensures ∙ is_no_phone (line (goal.at.returns c).After-is-arg-2-1) (no_store (goal.at.returns c).After-is) (no_tell (goal.at.returns c).After-is-arg-4-1) (no_cut (goal.at.returns c).After-is-arg-5-1) (no_restart (goal.at.returns c).Else-is-3)
+    c.asked_cell.ensures ∙ is_no_phone c.args.line.now (no_store (goal.at.returns c).Else-begins) (no_tell (goal.at.returns c).Else-is) (no_cut (goal.at.returns c).Else-is-2) (no_restart (goal.at.returns c).Else-is-3)

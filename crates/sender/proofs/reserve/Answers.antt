@@ -10,21 +10,21 @@ use Rattle.sender.proofs.reserve.Goals as goal
 
 -- past the first test the sender can arise
 good : (c : Else-not-can_arise) → sender_can_arise c.args.sender ≡ true
-good c = sym c.can_arise.ensures ∙ not-false _ c.if-not-can_arise.false-raw
+good c = sym c.can_arise.ensures ∙ c.if-not-can_arise.false
 
 pub returns-then-not-can_arise : goal.returns-then-not-can_arise
 unfolding first reserve_order
-returns-then-not-can_arise c = record { refusal_is = simp (sym c.can_arise.ensures ∙ not-true _ c.if-not-can_arise.true-raw); numbers_are = refl; lent_is = refl }
+returns-then-not-can_arise c = record { refusal_is = simp (sym c.can_arise.ensures ∙ c.if-not-can_arise.true); numbers_are = refl; lent_is = refl }
 
 pub returns-then-not-is_reservation : goal.returns-then-not-is_reservation
 unfolding first reserve_order
-returns-then-not-is_reservation c = record { refusal_is = simp (good (goal.at.returns-then-not-is_reservation c).Else-not-can_arise, sym c.is_reservation.ensures ∙ not-true _ c.if-not-is_reservation.true-raw); numbers_are = refl; lent_is = refl }
+returns-then-not-is_reservation c = record { refusal_is = simp (good (goal.at.returns-then-not-is_reservation c).Else-not-can_arise, sym c.is_reservation.ensures ∙ c.if-not-is_reservation.true); numbers_are = refl; lent_is = refl }
 
 pub returns : goal.returns
 unfolding first reserve_order with_reservation
 returns c =
     record {
-      refusal_is = simp (good (goal.at.returns c).Else-not-can_arise, sym c.is_reservation.ensures ∙ not-false _ c.if-not-is_reservation.false-raw);
+      refusal_is = simp (good (goal.at.returns c).Else-not-can_arise, sym c.is_reservation.ensures ∙ c.if-not-is_reservation.false);
       numbers_are = refl;
       lent_is = refl;
     }

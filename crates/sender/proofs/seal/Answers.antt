@@ -25,13 +25,13 @@ module _ (c : Else-not-can_arise) where
   before = c.args.output.now
 
   good : sender_can_arise sender ≡ true
-  good = sym c.can_arise.ensures ∙ not-false _ c.if-not-can_arise.false-raw
+  good = sym c.can_arise.ensures ∙ c.if-not-can_arise.false
 
 pub returns-then-not-can_arise : goal.returns-then-not-can_arise
 returns-then-not-can_arise c =
     let at = c.args in
     seal_refused at.sender at.payload.now at.output.now 12 c.not_sealed.result
-    (seal_12 at.sender at.payload.now at.output.now (sym c.can_arise.ensures ∙ not-true _ c.if-not-can_arise.true-raw))
+    (seal_12 at.sender at.payload.now at.output.now (sym c.can_arise.ensures ∙ c.if-not-can_arise.true))
     (eqb-false 12 0 refl)
     c.not_sealed.ensures
 
@@ -75,7 +75,10 @@ returns-then-output-size c =
 
 pub write_frame-requires : goal.write_frame-requires
 write_frame-requires c =
-    ((sender_says (sender (goal.at.write_frame-requires c).Else-not-can_arise) (good (goal.at.write_frame-requires c).Else-not-can_arise)).link_can, (omega arith, (omega arith, omega arith)))
+    record {
+      link_value = (sender_says (sender (goal.at.write_frame-requires c).Else-not-can_arise) (good (goal.at.write_frame-requires c).Else-not-can_arise)).link_can;
+      payload_nonzero = (omega arith, (omega arith, omega arith));
+    }
 
 pub returns : goal.returns
 unfolding end after_frame

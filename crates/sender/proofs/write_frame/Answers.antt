@@ -13,8 +13,8 @@ pub returns : goal.returns
 unfolding header_at
 returns c =
     let given = c.args in
-    let good = c.requires.0 in
-    let sizes = c.requires.1 in
+    let good = c.requires.link_value in
+    let sizes = c.requires.payload_nonzero in
     frame_written given.link given.number given.payload.now given.output.now _ _
     (header_done (header_at given.link given.number) _ given.output.now c.put_header.ensures (header_at_range given.link given.number good) sizes.0 sizes.1.0 (omega arith)).1
     sizes.1.1

@@ -59,7 +59,7 @@ pub returns-then-not-can_arise : goal.returns-then-not-can_arise
 unfolding restore_receiver_order
 returns-then-not-can_arise c =
     receiver_refused width (octets (goal.at.returns-then-not-can_arise c).After-can_arise) 12 c.no_receiver-then-not-can_arise.result
-    (restore_12 2 (octets (goal.at.returns-then-not-can_arise c).After-can_arise) _ (nothing (goal.at.returns-then-not-can_arise c).Else-refusal-ne0) (can_is (goal.at.returns-then-not-can_arise c).After-can_arise ∙ not-true _ c.if-not-can_arise.true-raw))
+    (restore_12 2 (octets (goal.at.returns-then-not-can_arise c).After-can_arise) _ (nothing (goal.at.returns-then-not-can_arise c).Else-refusal-ne0) (can_is (goal.at.returns-then-not-can_arise c).After-can_arise ∙ c.if-not-can_arise.true))
     (eqb-false 12 0 refl)
     c.no_receiver-then-not-can_arise.ensures
 
@@ -67,7 +67,7 @@ pub returns : goal.returns
 unfolding restore_receiver_order
 returns c =
     record {
-      refusal_is = sym (restore_0 2 (octets (goal.at.returns c).After-can_arise) _ (nothing (goal.at.returns c).Else-refusal-ne0) (can_is (goal.at.returns c).After-can_arise ∙ not-false _ c.if-not-can_arise.false-raw));
+      refusal_is = sym (restore_0 2 (octets (goal.at.returns c).After-can_arise) _ (nothing (goal.at.returns c).Else-refusal-ne0) (can_is (goal.at.returns c).After-can_arise ∙ c.if-not-can_arise.false));
       numbers_are = refl;
       lent_is = receiver_is (goal.at.returns c).After-can_arise;
     }

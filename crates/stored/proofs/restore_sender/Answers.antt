@@ -52,7 +52,7 @@ pub returns-then-not-can_arise : goal.returns-then-not-can_arise
 unfolding restore_sender_order
 returns-then-not-can_arise c =
     sender_refused (octets (goal.at.returns-then-not-can_arise c).After-can_arise) 12 c.no_sender-then-not-can_arise.result
-    (restore_12 1 (octets (goal.at.returns-then-not-can_arise c).After-can_arise) _ (nothing (goal.at.returns-then-not-can_arise c).Else-refusal-ne0) (can_is (goal.at.returns-then-not-can_arise c).After-can_arise ∙ not-true _ c.if-not-can_arise.true-raw))
+    (restore_12 1 (octets (goal.at.returns-then-not-can_arise c).After-can_arise) _ (nothing (goal.at.returns-then-not-can_arise c).Else-refusal-ne0) (can_is (goal.at.returns-then-not-can_arise c).After-can_arise ∙ c.if-not-can_arise.true))
     (eqb-false 12 0 refl)
     c.no_sender-then-not-can_arise.ensures
 
@@ -60,7 +60,7 @@ pub returns : goal.returns
 unfolding restore_sender_order
 returns c =
     record {
-      refusal_is = sym (restore_0 1 (octets (goal.at.returns c).After-can_arise) _ (nothing (goal.at.returns c).Else-refusal-ne0) (can_is (goal.at.returns c).After-can_arise ∙ not-false _ c.if-not-can_arise.false-raw));
+      refusal_is = sym (restore_0 1 (octets (goal.at.returns c).After-can_arise) _ (nothing (goal.at.returns c).Else-refusal-ne0) (can_is (goal.at.returns c).After-can_arise ∙ c.if-not-can_arise.false));
       numbers_are = refl;
       lent_is = sender_is (goal.at.returns c).After-can_arise;
     }

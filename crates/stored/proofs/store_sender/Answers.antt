@@ -7,7 +7,7 @@ use Rattle.refusals.proofs.Calls.{refused}
 use Rattle.sender.specs.Sender.{reserve_order}
 use Rattle.stored.specs.Ends.{sender_form, store_sender_call}
 use Rattle.stored.proofs.Answers.{store_sender_told, store_sender_4, store_sender_0}
-use Rattle.stored.proofs.store_sender.Goals.{Else-output-lt-SENDER_SIZE, Else-told-ne0}
+use Rattle.stored.proofs.store_sender.Goals.{Else-told-ne0}
 use Rattle.stored.proofs.store_sender.Goals as goal
 
 -- past the first test the sender may be told the reservation
@@ -34,7 +34,7 @@ unfolding sender_form
 returns c =
     let given = c.args in
     record {
-      refusal_is = sym (store_sender_0 given.sender given.reserved given.output.now (nothing (goal.at.returns c).Else-output-lt-SENDER_SIZE) c.if-output-lt-SENDER_SIZE.false);
+      refusal_is = sym (store_sender_0 given.sender given.reserved given.output.now (nothing (goal.at.returns c).Else-told-ne0) c.if-output-lt-SENDER_SIZE.false);
       numbers_are = refl;
       lent_is = c.put_form.ensures;
     }

@@ -43,6 +43,6 @@ returns c =
     let block : List ℕ = given.block.now in
     let inv = c.loop-n.invariant in
     let nine : c.loop-n.n - 1 ≡ 9 = omega arith in
-    c.Block-of.ensures
+    c.block_of.ensures
     ∙ ap (λ (y : Columns). block_of (held y)) c.last_round.ensures
     ∙ block_encrypted words block inv.1.1.0 c.loop-n.x (inv.1.1.1 ∙ ap (λ (k : ℕ). columns_of (rounds words k (state_of block))) nine)

@@ -18,11 +18,11 @@ returns-then-i-eq0 c =
     let given = c.args in
     rw (le-ltb given.i 4 c.if-i-lt4.false, eq-eqb (given.i % 4) 0 c.if-i-eq0.true)
     (ap (bit_xor (get_or given.words.now (given.i - 4) 0))
-    (ap₂ bit_xor (c.sub_rotated.ensures ∙ ap (λ (w : ℕ). sub_word (rot_word w)) c.requires.1) c.round_constant.ensures))
+    (ap₂ bit_xor (c.sub_rotated.ensures ∙ ap (λ (w : ℕ). sub_word (rot_word w)) c.requires.before_value) c.round_constant.ensures))
 
 pub returns : goal.returns
 unfolding next_word
 returns c =
     let given = c.args in
     rw (le-ltb given.i 4 c.if-i-lt4.false, ne_eqb (given.i % 4) 0 c.if-i-eq0.false)
-    (ap (bit_xor (get_or given.words.now (given.i - 4) 0)) c.requires.1)
+    (ap (bit_xor (get_or given.words.now (given.i - 4) 0)) c.requires.before_value)

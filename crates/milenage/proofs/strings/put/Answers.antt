@@ -13,4 +13,4 @@ unfolding front
 returns c =
     let given = c.args in
     let octets : List ℕ = given.octets.now in
-    c.copy.ensures.1 ∙ ap (λ (l : List ℕ). l ++ drop (length octets) given.output.now) (take-length octets)
+    ap (λ (l : List ℕ). l ++ drop (length octets) given.output.now) c.copy_from_slice.ensures.after

@@ -36,7 +36,7 @@ few c =
 
 -- the octet that a turn reads is one
 is_octet : (c : After-shared_slice_known-1) → get_or c.args.octets.now (c.args.at + c.loop-j.j) 0 < 2 ^ 8
-is_octet c = let (goal.at.After-shared_slice_known-1 c).At-loop-j = (goal.at.After-shared_slice_known-1 c).At-loop-j in omega (arith, c.shared_slice_known-1.given (c.args.at + c.loop-j.j))
+is_octet c = omega (arith, c.type_inv.octets (c.args.at + c.loop-j.j))
 
 pub loop-j-init : goal.loop-j-init
 unfolding number
