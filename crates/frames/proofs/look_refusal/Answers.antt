@@ -1,6 +1,6 @@
 -- `frames::look_refusal` meets its contract: each refusal is given where its cause is the first that holds.
 -- Assumes nothing.
-use borrow.Author.Tests.{eq-eqb, ne_eqb, not-true, not-false}
+use borrow.Author.Tests.{eq-eqb, ne_eqb}
 use mathlib.Core.Path.{◌≡◌, refl, sym, ◌∙◌}
 use mathlib.Core.Bool.{true}
 use lib.Dec.{eqb}

@@ -1,7 +1,6 @@
 -- `frames::write_header` meets its contract: six stores, one after the other, put the six octets to the front.
 -- Assumes nothing.
 use native.Mathlib.Omega.{arith}
-use lib.ListN.{length-set}
 use lib.Seq.{sets-eq}
 use Rattle.frames.specs.Frame.{header_octets, pair}
 use Rattle.frames.proofs.Tests.{header_says}

@@ -7,7 +7,6 @@ use mathlib.Core.List.{List, [], ◌∷◌}
 use native.Mathlib.Omega.{arith}
 use Rattle.refusals.specs.Refusal.{first}
 use Rattle.octets.specs.Octets.{AreOctets}
-use Rattle.octets.proofs.Octets.{whole_key}
 use Rattle.kasumi.specs.Kasumi.{kasumi_order}
 use Rattle.kasumi.specs.Lent.{ciphered_by}
 use Rattle.kasumi.proofs.Lent.{ciphered_kasumi}

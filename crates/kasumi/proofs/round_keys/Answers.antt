@@ -3,7 +3,6 @@
 use mathlib.Core.Path.{refl, sym, ◌∙◌}
 use borrow.Author.Tests.{not-true, not-false}
 use Rattle.refusals.specs.Refusal.{first}
-use Rattle.octets.proofs.Octets.{whole_key}
 use Rattle.kasumi.specs.Kasumi.{kasumi_order}
 use Rattle.kasumi.proofs.round_keys.Goals as goal
 

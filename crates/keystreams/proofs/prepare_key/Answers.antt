@@ -6,14 +6,12 @@ use native.Mathlib.Omega.{arith}
 use mathlib.Core.Path.{◌≡◌, refl, sym, ap, ◌∙◌}
 use mathlib.Core.Bool.{true}
 use mathlib.Core.List.{List}
-use Prim.Native.Nat.{ℕ, ◌-◌, ◌≤◌}
-use borrow.Author.Tests.{not-true, not-false}
-use lib.ListN.{length, get_or}
+use Prim.Native.Nat.{ℕ}
+use lib.ListN.{get_or}
 use Rattle.refusals.specs.Refusal.{first}
-use Rattle.octets.proofs.Filling.{Filled, filled_none, filled_more, filled_all}
-use Rattle.keystreams.specs.Key.{is_key, source_of, key_order}
+use Rattle.octets.proofs.Filling.{filled_none, filled_more, filled_all}
+use Rattle.keystreams.specs.Key.{is_key, key_order}
 use Rattle.keystreams.proofs.Keys.{key_most, source_within, prepared_listed}
-use Rattle.keystreams.proofs.prepare_key.Invariants.{octet_at}
 use Rattle.keystreams.proofs.prepare_key.Goals.{Else-not-is_key}
 use Rattle.keystreams.proofs.prepare_key.Goals as goal
 

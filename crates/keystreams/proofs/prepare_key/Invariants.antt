@@ -1,17 +1,11 @@
 -- `keystreams::prepare_key` meets its contract: each turn of the loop puts the octet of document 004's rule to the next place. The measure is what is
 -- left of the 16.
 -- Assumes nothing.
-use native.Mathlib.Omega.{arith}
-use mathlib.Core.Path.{◌≡◌, refl, sym, ap, ◌∙◌}
-use mathlib.Core.Bool.{true}
 use mathlib.Core.List.{List}
 use Prim.Native.Nat.{ℕ, ◌-◌, ◌≤◌}
-use borrow.Author.Tests.{not-true, not-false}
 use lib.ListN.{length, get_or}
-use Rattle.refusals.specs.Refusal.{first}
-use Rattle.octets.proofs.Filling.{Filled, filled_none, filled_more, filled_all}
-use Rattle.keystreams.specs.Key.{is_key, source_of, key_order}
-use Rattle.keystreams.proofs.Keys.{key_most, source_within, prepared_listed}
+use Rattle.octets.proofs.Filling.{Filled}
+use Rattle.keystreams.specs.Key.{source_of}
 use Rattle.keystreams.proofs.prepare_key.Given as goal
 
 -- the octet at place i

@@ -10,7 +10,7 @@ use native.Mathlib.Nat.{zero-min}
 use borrow.Rule.Slice.PartMut.{mid_of, put_mid, mid_len}
 use lib.Bits.{bit_xor, xor_lt}
 use lib.Dec.{lit<}
-use lib.ListN.{length, get_or, drop, set, length-set}
+use lib.ListN.{length, get_or, drop, set}
 use Rattle.octets.specs.Bits.{bit_at, part, octet, listed, size, stored}
 use Rattle.octets.proofs.Number.{bit_at_lt}
 use Rattle.octets.proofs.Listed.{length-listed_front, get_or-listed_front, listed_part}
@@ -21,7 +21,6 @@ use Rattle.kasumi.proofs.Lent.{ciphered_kasumi}
 use Rattle.kgcore.specs.Kgcore
 use Rattle.kgcore.specs.Kgcore.{blocks}
 use Rattle.kgcore.proofs.Stream.{modified_octets, stream_bit, block_next, stream_octet}
-use Rattle.kgcore.proofs.generate.Invariants.{Generated}
 use Rattle.kgcore.proofs.generate.Goals.{At-loop-n}
 use Rattle.kgcore.proofs.generate.Goals as goal
 

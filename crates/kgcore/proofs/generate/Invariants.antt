@@ -1,25 +1,14 @@
 -- `kgcore::generate` meets its contract. The loop's invariant: `block` is block n, and the octets of the blocks so far stand at the front of
 -- the output, as far as `size` goes. After the loop only the spare bits of the last octet are left to clear. The measure is what is left of the blocks.
 -- Assumes nothing.
-use mathlib.Core.Path.{◌≡◌, refl, sym, ap, ap₂, ◌∙◌}
+use mathlib.Core.Path.{◌≡◌}
 use mathlib.Core.List.{List, ◌++◌}
-use Prim.Native.Nat.{ℕ, ◌+◌, ◌-◌, ◌*◌, ◌^◌, ◌≤◌, ◌<◌, min}
-use native.Mathlib.Omega.{arith}
-use native.Mathlib.Nat.{zero-min}
-use borrow.Rule.Slice.PartMut.{mid_of, put_mid, mid_len}
-use lib.Bits.{bit_xor, xor_lt}
-use lib.Dec.{lit<}
-use lib.ListN.{length, get_or, drop, set, length-set}
-use Rattle.octets.specs.Bits.{bit_at, part, octet, listed, size, stored}
-use Rattle.octets.proofs.Number.{bit_at_lt}
-use Rattle.octets.proofs.Listed.{length-listed_front, get_or-listed_front, listed_part}
-use Rattle.octets.proofs.Stored.{stored_cleared}
-use Rattle.kasumi.specs.Kasumi.{kasumi}
-use Rattle.kasumi.specs.Lent.{round_words, ciphered_by}
-use Rattle.kasumi.proofs.Lent.{ciphered_kasumi}
+use Prim.Native.Nat.{ℕ, ◌-◌, ◌*◌, ◌^◌, ◌≤◌, ◌<◌, min}
+use lib.ListN.{drop}
+use Rattle.octets.specs.Bits.{octet, listed}
 use Rattle.kgcore.specs.Kgcore
 use Rattle.kgcore.specs.Kgcore.{blocks}
-use Rattle.kgcore.proofs.Stream.{modified_octets, stream_bit, block_next, stream_octet}
+use Rattle.kgcore.proofs.Stream.{stream_bit}
 use Rattle.kgcore.proofs.generate.Given as goal
 
 -- block n is the last one made, and the octets of the blocks so far stand at the front of the output, as far as `size` goes

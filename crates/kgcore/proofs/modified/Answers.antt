@@ -2,13 +2,12 @@
 -- Assumes nothing.
 use mathlib.Core.Path.{refl, sym, ap, ◌∙◌}
 use mathlib.Core.List.{List}
-use Prim.Native.Nat.{ℕ, ◌-◌}
+use Prim.Native.Nat.{ℕ}
 use native.Mathlib.Omega.{arith}
 use lib.Bits.{bit_xor}
-use lib.ListN.{get_or}
 use Rattle.kgcore.specs.Kgcore.{modified}
 use Rattle.octets.specs.Bits.{listed}
-use Rattle.octets.proofs.Filling.{Filled, filled_none, filled_more, filled_all}
+use Rattle.octets.proofs.Filling.{filled_none, filled_more, filled_all}
 use Rattle.octets.proofs.Listed.{listed_map}
 use Rattle.kgcore.proofs.modified.Invariants.{changed_octet}
 use Rattle.kgcore.proofs.modified.Goals as goal

@@ -1,15 +1,10 @@
 -- `kgcore::modified` meets its contract: each turn of the loop changes the next octet. The measure is what is left of the 16.
 -- Assumes nothing.
-use mathlib.Core.Path.{refl, sym, ap, ◌∙◌}
 use mathlib.Core.List.{List}
 use Prim.Native.Nat.{ℕ, ◌-◌}
-use native.Mathlib.Omega.{arith}
 use lib.Bits.{bit_xor}
 use lib.ListN.{get_or}
-use Rattle.kgcore.specs.Kgcore.{modified}
-use Rattle.octets.specs.Bits.{listed}
-use Rattle.octets.proofs.Filling.{Filled, filled_none, filled_more, filled_all}
-use Rattle.octets.proofs.Listed.{listed_map}
+use Rattle.octets.proofs.Filling.{Filled}
 use Rattle.kgcore.proofs.modified.Given as goal
 
 -- octet i of the modified key

@@ -2,15 +2,14 @@
 -- Assumes nothing.
 use Rattle.std.proofs.Common.{rules}
 use mathlib.Core.Path.{◌≡◌, refl, ap, ap₂, ◌∙◌}
-use mathlib.Core.List.{List, ◌++◌}
-use Prim.Native.Nat.{ℕ, ◌-◌, ◌≤◌, ◌<◌, min}
+use mathlib.Core.List.{List}
+use Prim.Native.Nat.{ℕ, ◌<◌}
 use native.Mathlib.Omega.{arith}
-use borrow.Author.Tests.{ltb-true, ltb-false}
-use lib.ListN.{length, drop, set}
+use borrow.Author.Tests.{ltb-true}
+use lib.ListN.{length, set}
 use Rattle.octets.specs.Bits.{bit_at, octet, listed}
 use Rattle.octets.proofs.Listed.{length-listed_front, listed_store}
 use Rattle.kgcore.proofs.Stream.{block_octet}
-use Rattle.kgcore.proofs.put.Invariants.{Put}
 use Rattle.kgcore.proofs.put.Goals.{At-loop-j}
 use Rattle.kgcore.proofs.put.Goals as goal
 

@@ -1,14 +1,10 @@
 -- `kgcore::put` meets its contract: each turn of the loop puts the next octet of the block. The measure is what is left of the eight.
 -- Assumes nothing.
-use mathlib.Core.Path.{◌≡◌, refl, ap, ap₂, ◌∙◌}
+use mathlib.Core.Path.{◌≡◌}
 use mathlib.Core.List.{List, ◌++◌}
-use Prim.Native.Nat.{ℕ, ◌-◌, ◌≤◌, ◌<◌, min}
-use native.Mathlib.Omega.{arith}
-use borrow.Author.Tests.{ltb-true, ltb-false}
-use lib.ListN.{length, drop, set}
+use Prim.Native.Nat.{ℕ, ◌-◌, ◌≤◌}
+use lib.ListN.{length, drop}
 use Rattle.octets.specs.Bits.{bit_at, octet, listed}
-use Rattle.octets.proofs.Listed.{length-listed_front, listed_store}
-use Rattle.kgcore.proofs.Stream.{block_octet}
 use Rattle.kgcore.proofs.put.Given as goal
 
 -- the first j octets of the block stand at the front of the output

@@ -1,10 +1,7 @@
 -- `lines::all_digits` meets its contract. The loop's invariant: the test of the text is the test of what is left of it.
 -- Assumes nothing.
-use Prim.Native.Nat.{◌-◌, ◌≤◌}
-use lib.ListN.{length, drop}
-use mathlib.Core.Path.{◌≡◌, refl, sym, ◌∙◌}
+use mathlib.Core.Path.{sym, ◌∙◌}
 use native.Mathlib.Omega.{arith}
-use Rattle.lines.specs.Digits.{all_digits}
 use Rattle.lines.proofs.Digits.{digit_passes, digit_fails, digits_end}
 use Rattle.lines.proofs.all_digits.Goals as goal
 

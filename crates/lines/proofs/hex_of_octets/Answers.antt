@@ -2,14 +2,13 @@
 -- is as it was. The measure is how many octets are left.
 -- Assumes nothing.
 use Rattle.std.proofs.Common.{rules}
-use Prim.Native.Nat.{ℕ, ◌+◌, ◌-◌, ◌*◌, ◌≤◌}
-use lib.ListN.{length, take, drop, set, length-set}
+use Prim.Native.Nat.{ℕ, ◌+◌, ◌*◌}
+use lib.ListN.{take, drop, set}
 use mathlib.Core.List.{List, ◌++◌}
-use mathlib.Core.Path.{◌≡◌, refl, sym, ap, ap₂, ◌∙◌}
+use mathlib.Core.Path.{refl, sym, ap, ap₂, ◌∙◌}
 use native.Mathlib.Omega.{arith}
-use Rattle.octets.proofs.Listed.{length_front}
 use Rattle.lines.specs.Text.{hex_text}
-use Rattle.lines.proofs.Text.{length-hex_text, length_some_hex, hex_turn, hex_put, put_short, put_fits}
+use Rattle.lines.proofs.Text.{length-hex_text, hex_turn, hex_put, put_short, put_fits}
 use Rattle.lines.proofs.hex_of_octets.Goals as goal
 
 pub returns-then-output-count : goal.returns-then-output-count

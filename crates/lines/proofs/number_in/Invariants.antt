@@ -1,18 +1,10 @@
 -- `lines::number_in` meets its contract. The loop's invariant: what is left of the text, after the value so far, writes the number; and the value
 -- so far has at most i digits. The measure is how many digits are left.
 -- Assumes nothing.
-use Prim.Native.Nat.{ℕ, ◌+◌, ◌-◌, ◌*◌, ◌^◌, ◌≤◌, ◌<◌}
-use borrow.Author.Tests.{not-true, not-false}
-use lib.Dec.{lit<}
-use lib.ListN.{length, get_or, drop}
-use mathlib.Core.Bool.{true}
-use mathlib.Core.List.{[], ◌∷◌}
-use mathlib.Core.Path.{◌≡◌, refl, sym, ap, ◌∙◌}
-use native.Mathlib.Nat.{pow-zero}
-use native.Mathlib.Omega.{arith}
-use Rattle.refusals.specs.Refusal.{first}
-use Rattle.lines.specs.Digits.{digit_value, all_digits, value_from, value_of, is_number, digits_order}
-use Rattle.lines.proofs.Digits.{within_both, within_below, within_above, digit_below, number_step, number_end, one_digit_more, number_fits}
+use Prim.Native.Nat.{◌-◌, ◌^◌, ◌≤◌, ◌<◌}
+use lib.ListN.{length, drop}
+use mathlib.Core.Path.{◌≡◌}
+use Rattle.lines.specs.Digits.{value_from, value_of}
 use Rattle.lines.proofs.number_in.Given as goal
 
 abbrev pub invariant-loop-i : goal.invariant-loop-i

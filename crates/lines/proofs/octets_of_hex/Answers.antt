@@ -2,7 +2,7 @@
 -- is as it was. The measure is how many pairs are left.
 -- Assumes nothing.
 use Rattle.std.proofs.Common.{rules}
-use Prim.Native.Nat.{ℕ, ◌+◌, ◌-◌, ◌*◌, ◌%◌, ◌≤◌, ◌<◌}
+use Prim.Native.Nat.{ℕ, ◌+◌, ◌*◌, ◌%◌, ◌<◌}
 use native.Mathlib.Omega.{arith}
 use borrow.Author.Tests.{not-true, not-false, eq-eqb, ne_eqb}
 use lib.ListN.{length, get_or, take, drop, set}
@@ -11,11 +11,10 @@ use mathlib.Core.List.{List, [], ◌∷◌, ◌++◌}
 use mathlib.Core.Path.{◌≡◌, refl, sym, ap, ap₂, ◌∙◌}
 use Rattle.refusals.specs.Call.{Answered}
 use Rattle.refusals.proofs.Calls.{refused}
-use Rattle.octets.proofs.Listed.{length_front}
 use Rattle.lines.specs.Digits.{digit_value, all_digits}
 use Rattle.lines.specs.Text.{is_hex, hex_octets, octets_of_hex_call}
 use Rattle.lines.proofs.Digits.{digit_below}
-use Rattle.lines.proofs.Text.{length-hex_octets, length_some_octets, octets_turn, octets_put, room_short, room_enough, hex_bad, hex_good, put}
+use Rattle.lines.proofs.Text.{length-hex_octets, octets_turn, octets_put, room_short, room_enough, hex_bad, hex_good, put}
 use Rattle.lines.proofs.octets_of_hex.Goals.{Else-not-all_digits, In-loop-k}
 use Rattle.lines.proofs.octets_of_hex.Goals as goal
 

@@ -1,6 +1,5 @@
 -- `link::can_arise` meets its contract: its tests are the definition's.
 -- Assumes nothing.
-use Rattle.std.proofs.Common.{rules}
 use Rattle.link.specs.Link.{link_can_arise}
 use Rattle.link.proofs.can_arise.Goals as goal
 

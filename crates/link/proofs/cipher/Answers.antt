@@ -1,7 +1,6 @@
 -- `link::cipher` meets its contract: each refusal is given where its cause is the first that holds, and else the ciphered payload is put.
 -- Assumes nothing.
-use Rattle.std.proofs.Common.{◌≡◌, true, cond, ltb, length, sym, refl, ◌∙◌, arith, rules, le-ltb, lt-ltb, eq-eqb, ne_eqb}
-use borrow.Author.Tests.{not-true, not-false}
+use Rattle.std.proofs.Common.{◌≡◌, true, cond, ltb, length, sym, refl, ◌∙◌, le-ltb, lt-ltb, eq-eqb, ne_eqb}
 use Rattle.refusals.specs.Refusal.{first}
 use Rattle.link.specs.Link.{link_can_arise, is_payload, cipher_order}
 use Rattle.link.proofs.cipher.Goals.{Else-not-can_arise, Else-payload-gt-MOST_PAYLOAD}

@@ -1,7 +1,6 @@
 -- `link::open_link` meets its contract: each refusal is given where its cause is the first that holds, and else the link has the prepared key.
 -- Assumes nothing.
-use Rattle.std.proofs.Common.{◌≡◌, true, ◌&&◌, sym, refl, ◌∙◌, ap₂, rules}
-use borrow.Author.Tests.{not-true, not-false}
+use Rattle.std.proofs.Common.{◌≡◌, true, ◌&&◌, sym, refl, ◌∙◌, ap₂}
 use Rattle.refusals.specs.Refusal.{first}
 use Rattle.keystreams.specs.Key.{is_key, prepared}
 use Rattle.keystreams.proofs.Keys.{prepare_done, prepare_refused}

@@ -2,7 +2,6 @@
 -- Assumes nothing.
 use borrow.Author.Tests.{lt-ltb, le-ltb, le-leb, lt-leb, eq-eqb, ne_eqb}
 use mathlib.Core.Path.{◌≡◌}
-use mathlib.Core.Logic.{⊎_elim}
 use mathlib.Core.Bool.{true}
 use Prim.Native.Nat.{◌^◌, min}
 use native.Mathlib.Omega.{arith}
@@ -18,8 +17,8 @@ within : (c : Joined-next-lt-WIDTH) → ltb c.args.numbering.marks (2 ^ min widt
 within c =
     let state = c.args.numbering in
     elim c.if-next-lt-WIDTH.branch [
-      then-next-lt-WIDTH+else-marks-next-gt0 w ↦ rw (min-eq_right {m = width} (le_of_lt w.if-next-lt-WIDTH.true)) (lt-ltb _ _ (below_shift state.marks state.next w.if-marks-next-gt0.false))
-    | else-next-lt-WIDTH w ↦ rw (min-eq_left {n = width} w.if-next-lt-WIDTH.false) (lt-ltb state.marks (2 ^ width) (omega arith))
+      | then-next-lt-WIDTH+else-marks-next-gt0 w ↦ rw (min-eq_right {m = width} (le_of_lt w.if-next-lt-WIDTH.true)) (lt-ltb _ _ (below_shift state.marks state.next w.if-marks-next-gt0.false))
+      | else-next-lt-WIDTH w ↦ rw (min-eq_left {n = width} w.if-next-lt-WIDTH.false) (lt-ltb state.marks (2 ^ width) (omega arith))
     ]
 
 pub returns-then-next-gt-END : goal.returns-then-next-gt-END

@@ -1,6 +1,6 @@
 -- `numbering::number` meets its contract: each `return` is the first row of the order that holds, and past them all the number is accepted.
 -- Assumes nothing.
-use borrow.Author.Tests.{not-true, not-false, le-leb, lt-leb, eqb-false}
+use borrow.Author.Tests.{le-leb, lt-leb, eqb-false}
 use mathlib.Core.Path.{◌≡◌, refl, sym, ap, ◌∙◌}
 use mathlib.Core.Bool.{true, false}
 use mathlib.Core.List.{[], ◌∷◌}

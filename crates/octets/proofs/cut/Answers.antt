@@ -4,7 +4,7 @@
 use Rattle.std.proofs.Common.{rules}
 use mathlib.Core.Path.{◌≡◌, refl, sym, ap, ap₂, ◌∙◌}
 use mathlib.Core.List.{List, ◌++◌}
-use Prim.Native.Nat.{ℕ, ◌+◌, ◌-◌, ◌*◌, ◌≤◌}
+use Prim.Native.Nat.{ℕ, ◌+◌, ◌-◌, ◌*◌}
 use native.Mathlib.Omega.{arith}
 use borrow.Author.Tests.{lt-ltb, le-ltb}
 use lib.ListN.{length, drop, set}
@@ -12,9 +12,9 @@ use Rattle.refusals.specs.Refusal.{first}
 use Rattle.octets.specs.Bits.{bit_at, bit_of, part, number, octet, listed, size, stored}
 use Rattle.octets.specs.Cut.{cut_order}
 use Rattle.octets.proofs.Number.{number_ext}
-use Rattle.octets.proofs.Listed.{length-listed_front, listed_store}
+use Rattle.octets.proofs.Listed.{listed_store}
 use Rattle.octets.proofs.Stored.{bit_of_lt, octet_first, front_stored}
-use Rattle.octets.proofs.cut.Invariants.{asked, Cut}
+use Rattle.octets.proofs.cut.Invariants.{asked}
 use Rattle.octets.proofs.cut.Goals as goal
 
 -- what a turn computes: of the eight bits from octet k on, as many as are left

@@ -1,18 +1,11 @@
 -- `octets::cut` meets its contract: each turn of the loop puts the next octet, of the eight bits there as many as are left.
 -- The measure is what is left of the size.
 -- Assumes nothing.
-use mathlib.Core.Path.{◌≡◌, refl, sym, ap, ap₂, ◌∙◌}
+use mathlib.Core.Path.{◌≡◌}
 use mathlib.Core.List.{List, ◌++◌}
-use Prim.Native.Nat.{ℕ, ◌+◌, ◌-◌, ◌*◌, ◌≤◌}
-use native.Mathlib.Omega.{arith}
-use borrow.Author.Tests.{lt-ltb, le-ltb}
-use lib.ListN.{length, drop, set}
-use Rattle.refusals.specs.Refusal.{first}
-use Rattle.octets.specs.Bits.{bit_at, bit_of, part, number, octet, listed, size, stored}
-use Rattle.octets.specs.Cut.{cut_order}
-use Rattle.octets.proofs.Number.{number_ext}
-use Rattle.octets.proofs.Listed.{length-listed_front, listed_store}
-use Rattle.octets.proofs.Stored.{bit_of_lt, octet_first, front_stored}
+use Prim.Native.Nat.{ℕ, ◌-◌, ◌≤◌}
+use lib.ListN.{drop}
+use Rattle.octets.specs.Bits.{bit_of, part, octet, listed}
 use Rattle.octets.proofs.cut.Given as goal
 
 -- octet k of what is asked

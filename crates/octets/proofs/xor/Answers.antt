@@ -1,9 +1,9 @@
 -- `octets::xor` meets its contract: each turn of the loop puts the next octet. The measure is what is left of the source.
 -- Assumes nothing.
 use Rattle.std.proofs.Common.{rules}
-use Prim.Native.Nat.{ℕ, ◌-◌, ◌≤◌, ◌<◌}
+use Prim.Native.Nat.{ℕ, ◌<◌}
 use native.Mathlib.Omega.{arith}
-use mathlib.Core.Path.{◌≡◌, refl, sym, ap, ap₂, ◌∙◌}
+use mathlib.Core.Path.{refl, sym, ap, ap₂, ◌∙◌}
 use mathlib.Core.List.{List, ◌++◌}
 use borrow.Author.Tests.{lt-ltb, le-ltb}
 use lib.Bits.{bit_xor}
@@ -12,9 +12,9 @@ use Rattle.refusals.specs.Refusal.{first}
 use Rattle.refusals.specs.Call.{front}
 use Rattle.octets.specs.Bits.{listed}
 use Rattle.octets.specs.Xor.{xored, xor_order}
-use Rattle.octets.proofs.Listed.{length-listed_front, listed_store}
+use Rattle.octets.proofs.Listed.{listed_store}
 use Rattle.octets.proofs.Xored.{length-xored}
-use Rattle.octets.proofs.xor.Invariants.{at, Put}
+use Rattle.octets.proofs.xor.Invariants.{at}
 use Rattle.octets.proofs.xor.Goals as goal
 
 pub returns-then-output-source : goal.returns-then-output-source

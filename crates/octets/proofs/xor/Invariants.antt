@@ -1,18 +1,11 @@
 -- `octets::xor` meets its contract: each turn of the loop puts the next octet. The measure is what is left of the source.
 -- Assumes nothing.
-use Prim.Native.Nat.{ℕ, ◌-◌, ◌≤◌, ◌<◌}
-use native.Mathlib.Omega.{arith}
-use mathlib.Core.Path.{◌≡◌, refl, sym, ap, ap₂, ◌∙◌}
+use Prim.Native.Nat.{ℕ, ◌-◌, ◌≤◌}
+use mathlib.Core.Path.{◌≡◌}
 use mathlib.Core.List.{List, ◌++◌}
-use borrow.Author.Tests.{lt-ltb, le-ltb}
 use lib.Bits.{bit_xor}
-use lib.ListN.{length, get_or, set, drop}
-use Rattle.refusals.specs.Refusal.{first}
-use Rattle.refusals.specs.Call.{front}
+use lib.ListN.{length, get_or, drop}
 use Rattle.octets.specs.Bits.{listed}
-use Rattle.octets.specs.Xor.{xored, xor_order}
-use Rattle.octets.proofs.Listed.{length-listed_front, listed_store}
-use Rattle.octets.proofs.Xored.{length-xored}
 use Rattle.octets.proofs.xor.Given as goal
 
 -- octet i of the xor

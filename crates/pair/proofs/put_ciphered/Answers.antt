@@ -8,7 +8,6 @@ use mathlib.Core.Path.{◌≡◌, refl, sym, ap, ap₂, ◌∙◌}
 use mathlib.Core.List.{List, ◌++◌}
 use lib.Bits.{bit_xor, xor_lt}
 use lib.ListN.{length, get_or, drop, set}
-use lib.Seq.{length-take-le}
 use Rattle.refusals.specs.Call.{front}
 use Rattle.octets.specs.Bits.{bit_at, bit_of, part, octet, listed, size}
 use Rattle.octets.proofs.Listed.{length-listed_front, get_or-listed_front}

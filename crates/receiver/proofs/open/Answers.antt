@@ -4,7 +4,7 @@ use Prim.Native.Nat.{ℕ}
 use mathlib.Core.Path.{◌≡◌, refl, sym, ◌∙◌}
 use mathlib.Core.Bool.{true}
 use mathlib.Core.List.{List}
-use borrow.Author.Tests.{eqb-false, not-true, not-false}
+use borrow.Author.Tests.{eqb-false}
 use Rattle.refusals.specs.Refusal.{first}
 use Rattle.frames.specs.Frame.{look_order}
 use Rattle.numbering.specs.Numbering.{width}

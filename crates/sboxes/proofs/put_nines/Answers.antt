@@ -1,13 +1,13 @@
 -- `sboxes::put_nines` meets its contract. The invariant of its loop: the entries up to 2^k stand at the front. The measure is what is left of the rows.
 -- Assumes nothing.
 use Rattle.std.proofs.Common.{rules}
-use Prim.Native.Nat.{ℕ, ◌-◌, ◌^◌, ◌≤◌}
+use Prim.Native.Nat.{ℕ, ◌^◌}
 use mathlib.Core.Path.{refl, ap}
 use native.Mathlib.Omega.{arith}
 use lib.Dec.{lit<}
 use Rattle.octets.specs.Bits.{listed}
 use Rattle.sboxes.specs.FiTable.{Filled}
-use Rattle.sboxes.proofs.Doubling.{twice, one_more, counted}
+use Rattle.sboxes.proofs.Doubling.{one_more, counted}
 use Rattle.sboxes.proofs.put_nines.Goals as goal
 
 pub loop-k-init : goal.loop-k-init

@@ -1,12 +1,7 @@
 -- `sboxes::put_nines` meets its contract. The invariant of its loop: the entries up to 2^k stand at the front. The measure is what is left of the rows.
 -- Assumes nothing.
-use Prim.Native.Nat.{ℕ, ◌-◌, ◌^◌, ◌≤◌}
-use mathlib.Core.Path.{refl, ap}
-use native.Mathlib.Omega.{arith}
-use lib.Dec.{lit<}
-use Rattle.octets.specs.Bits.{listed}
+use Prim.Native.Nat.{◌-◌, ◌^◌, ◌≤◌}
 use Rattle.sboxes.specs.FiTable.{Filled}
-use Rattle.sboxes.proofs.Doubling.{twice, one_more, counted}
 use Rattle.sboxes.proofs.put_nines.Given as goal
 
 abbrev pub invariant-loop-k : goal.invariant-loop-k

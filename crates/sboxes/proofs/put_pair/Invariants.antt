@@ -1,10 +1,7 @@
 -- `sboxes::put_pair` meets its contract. The invariant of its loop: i entries more stand at the front. The measure is what is left of 2^j.
 -- Assumes nothing.
-use Prim.Native.Nat.{ℕ, ◌+◌, ◌-◌, ◌≤◌}
-use native.Mathlib.Omega.{arith}
-use lib.Pow.{pow_pos}
+use Prim.Native.Nat.{◌+◌, ◌-◌, ◌≤◌}
 use Rattle.sboxes.specs.FiTable.{Filled}
-use Rattle.sboxes.proofs.Doubling.{low_fits, high_fits, one_more, counted, next_entry}
 use Rattle.sboxes.proofs.put_pair.Given as goal
 
 abbrev pub invariant-loop-i : goal.invariant-loop-i

@@ -1,13 +1,10 @@
 -- `sboxes::put_row` meets its contract. The invariant of its loop: the entries up to 2^k + 2^j stand at the front. The measure is what is left of the columns.
 -- Assumes nothing.
 use Rattle.std.proofs.Common.{rules}
-use Prim.Native.Nat.{ℕ, ◌+◌, ◌-◌, ◌^◌, ◌≤◌}
-use mathlib.Core.Path.{ap}
+use Prim.Native.Nat.{ℕ, ◌+◌, ◌≤◌}
 use native.Mathlib.Omega.{arith}
 use native.Mathlib.Nat.{pow-zero}
-use lib.Pow.{pow_pos}
-use Rattle.sboxes.specs.FiTable.{Filled}
-use Rattle.sboxes.proofs.Doubling.{high_fits, twice, one_more, counted}
+use Rattle.sboxes.proofs.Doubling.{high_fits, one_more, counted}
 use Rattle.sboxes.proofs.put_row.Goals.{After-power-high}
 use Rattle.sboxes.proofs.put_row.Goals as goal
 

@@ -1,12 +1,7 @@
 -- `sboxes::put_row` meets its contract. The invariant of its loop: the entries up to 2^k + 2^j stand at the front. The measure is what is left of the columns.
 -- Assumes nothing.
-use Prim.Native.Nat.{ℕ, ◌+◌, ◌-◌, ◌^◌, ◌≤◌}
-use mathlib.Core.Path.{ap}
-use native.Mathlib.Omega.{arith}
-use native.Mathlib.Nat.{pow-zero}
-use lib.Pow.{pow_pos}
+use Prim.Native.Nat.{◌+◌, ◌-◌, ◌^◌, ◌≤◌}
 use Rattle.sboxes.specs.FiTable.{Filled}
-use Rattle.sboxes.proofs.Doubling.{high_fits, twice, one_more, counted}
 use Rattle.sboxes.proofs.put_row.Given as goal
 
 abbrev pub invariant-loop-j : goal.invariant-loop-j

@@ -2,16 +2,15 @@
 -- of the 128.
 -- Assumes nothing.
 use Rattle.std.proofs.Common.{rules}
-use Prim.Native.Nat.{ℕ, ◌+◌, ◌-◌, ◌≤◌, ◌<◌}
+use Prim.Native.Nat.{ℕ, ◌+◌, ◌<◌}
 use mathlib.Core.Path.{◌≡◌, sym, ap, ap₂, ◌∙◌}
 use mathlib.Core.List.{List, [], ◌∷◌, ◌++◌, append-nil, append_assoc}
 use native.Mathlib.Omega.{arith}
 use native.Mathlib.Numerals.{add-one}
-use lib.ListN.{length, take, drop, set, length-append, take-append-drop, drop_of_length-le}
+use lib.ListN.{length, take, drop, set, length-append, take-append-drop}
 use lib.Seq.{length-take-le}
 use Rattle.octets.specs.Bits.{listed}
 use Rattle.octets.proofs.Listed.{length-listed, front_store}
-use Rattle.sboxes.specs.Tables.{s7_table}
 use Rattle.sboxes.specs.FiTable.{entry_of_seven}
 use Rattle.sboxes.proofs.put_sevens.Goals as goal
 

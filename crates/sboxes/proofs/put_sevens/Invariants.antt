@@ -1,15 +1,11 @@
 -- `sboxes::put_sevens` meets its contract: each turn of the loop puts the next entry behind the 512 that stay. The measure is what is left
 -- of the 128.
 -- Assumes nothing.
-use Prim.Native.Nat.{ℕ, ◌+◌, ◌-◌, ◌≤◌, ◌<◌}
-use mathlib.Core.Path.{◌≡◌, sym, ap, ap₂, ◌∙◌}
-use mathlib.Core.List.{List, [], ◌∷◌, ◌++◌, append-nil, append_assoc}
-use native.Mathlib.Omega.{arith}
-use native.Mathlib.Numerals.{add-one}
-use lib.ListN.{length, take, drop, set, length-append, take-append-drop, drop_of_length-le}
-use lib.Seq.{length-take-le}
+use Prim.Native.Nat.{◌+◌, ◌-◌, ◌≤◌}
+use mathlib.Core.Path.{◌≡◌}
+use mathlib.Core.List.{◌++◌}
+use lib.ListN.{take, drop}
 use Rattle.octets.specs.Bits.{listed}
-use Rattle.octets.proofs.Listed.{length-listed, front_store}
 use Rattle.sboxes.specs.Tables.{s7_table}
 use Rattle.sboxes.specs.FiTable.{entry_of_seven}
 use Rattle.sboxes.proofs.put_sevens.Given as goal

@@ -1,10 +1,7 @@
 -- `script::all_printable` meets its contract. The loop's invariant: the test of the text is the test of what is left of it.
 -- Assumes nothing.
-use Prim.Native.Nat.{◌-◌, ◌≤◌}
-use lib.ListN.{length, drop}
-use mathlib.Core.Path.{◌≡◌, refl, sym, ◌∙◌}
+use mathlib.Core.Path.{sym, ◌∙◌}
 use native.Mathlib.Omega.{arith}
-use Rattle.script.specs.Script.{all_printable}
 use Rattle.script.proofs.Lines.{printable_low, printable_high, printable_passes, printable_end}
 use Rattle.script.proofs.all_printable.Goals as goal
 

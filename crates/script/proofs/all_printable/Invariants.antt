@@ -2,10 +2,8 @@
 -- Assumes nothing.
 use Prim.Native.Nat.{◌-◌, ◌≤◌}
 use lib.ListN.{length, drop}
-use mathlib.Core.Path.{◌≡◌, refl, sym, ◌∙◌}
-use native.Mathlib.Omega.{arith}
+use mathlib.Core.Path.{◌≡◌}
 use Rattle.script.specs.Script.{all_printable}
-use Rattle.script.proofs.Lines.{printable_low, printable_high, printable_passes, printable_end}
 use Rattle.script.proofs.all_printable.Given as goal
 
 abbrev pub invariant-loop-i : goal.invariant-loop-i

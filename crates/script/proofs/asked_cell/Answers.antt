@@ -1,9 +1,7 @@
 -- `script::asked_cell` meets its contract: the words of the line decide.
 -- Assumes nothing.
-use Prim.Native.Nat.{ℕ}
 use mathlib.Core.Bool.{false}
-use mathlib.Core.List.{List}
-use mathlib.Core.Path.{◌≡◌, refl, sym, ◌∙◌}
+use mathlib.Core.Path.{◌≡◌, sym, ◌∙◌}
 use Rattle.script.specs.Quoted.{quoted}
 use Rattle.script.specs.Script.{is}
 use Rattle.script.proofs.Lines.{is_store_cell, is_cut_cell, is_restart_cell, is_no_cell}

@@ -1,9 +1,7 @@
 -- `script::asked_command` meets its contract: the first word decides.
 -- Assumes nothing.
-use Prim.Native.Nat.{ℕ}
 use mathlib.Core.Bool.{false}
-use mathlib.Core.List.{List}
-use mathlib.Core.Path.{◌≡◌, refl, sym, ap, ◌∙◌}
+use mathlib.Core.Path.{◌≡◌, sym, ap, ◌∙◌}
 use Rattle.script.specs.Quoted.{quoted}
 use Rattle.script.specs.Script.{begins, asked_lose, asked_keep, asked_give}
 use Rattle.script.proofs.Lines.{is_pass, is_lose, is_keep, is_give, is_noise, is_other}

@@ -1,9 +1,7 @@
 -- `script::asked_phone` meets its contract: the words of the line decide.
 -- Assumes nothing.
-use Prim.Native.Nat.{ℕ}
 use mathlib.Core.Bool.{false}
-use mathlib.Core.List.{List}
-use mathlib.Core.Path.{◌≡◌, refl, sym, ap, ◌∙◌}
+use mathlib.Core.Path.{◌≡◌, sym, ap, ◌∙◌}
 use Rattle.script.specs.Quoted.{quoted}
 use Rattle.script.specs.Script.{begins, is, asked_store}
 use Rattle.script.proofs.Lines.{is_store_phone, is_tell_phone, is_cut_phone, is_restart_phone, is_no_phone}

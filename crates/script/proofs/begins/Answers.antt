@@ -1,10 +1,7 @@
 -- `script::begins` meets its contract. The loop's invariant: the test of the word and the line is the test of what is left of them.
 -- Assumes nothing.
-use Prim.Native.Nat.{◌-◌, ◌≤◌}
-use lib.ListN.{length, drop}
-use mathlib.Core.Path.{◌≡◌, refl, sym, ◌∙◌}
+use mathlib.Core.Path.{sym, ◌∙◌}
 use native.Mathlib.Omega.{arith}
-use Rattle.script.specs.Script.{begins}
 use Rattle.script.proofs.Lines.{begins_short, begins_fails, begins_passes, begins_end}
 use Rattle.script.proofs.begins.Goals as goal
 

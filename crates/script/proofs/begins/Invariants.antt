@@ -2,10 +2,8 @@
 -- Assumes nothing.
 use Prim.Native.Nat.{◌-◌, ◌≤◌}
 use lib.ListN.{length, drop}
-use mathlib.Core.Path.{◌≡◌, refl, sym, ◌∙◌}
-use native.Mathlib.Omega.{arith}
+use mathlib.Core.Path.{◌≡◌}
 use Rattle.script.specs.Script.{begins}
-use Rattle.script.proofs.Lines.{begins_short, begins_fails, begins_passes, begins_end}
 use Rattle.script.proofs.begins.Given as goal
 
 abbrev pub invariant-loop-i : goal.invariant-loop-i

@@ -2,7 +2,6 @@
 -- Assumes nothing.
 use mathlib.Core.Path.{◌≡◌, refl, sym, ◌∙◌}
 use mathlib.Core.Bool.{true}
-use borrow.Author.Tests.{not-true, not-false}
 use Rattle.refusals.specs.Refusal.{first}
 use Rattle.sender.specs.Sender.{sender_can_arise, reserve_order, with_reservation}
 use Rattle.sender.proofs.reserve.Goals.{Else-not-can_arise}

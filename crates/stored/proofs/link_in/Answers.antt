@@ -1,13 +1,5 @@
 -- `stored::link_in` meets its contract: the key is copied, and the rest read octet by octet.
 -- Assumes nothing.
-use Prim.Native.Nat.{ℕ}
-use native.Mathlib.Omega.{arith}
-use mathlib.Core.Path.{◌≡◌, ap, ◌∙◌}
-use mathlib.Core.List.{List, ◌++◌}
-use lib.ListN.{length, take, drop, length-take, length-drop}
-use lib.Seq.{take-length}
-use Rattle.refusals.specs.Call.{front}
-use Rattle.refusals.proofs.Within.{front_whole}
 use Rattle.stored.specs.Form.{link_in}
 use Rattle.stored.proofs.link_in.Goals as goal
 

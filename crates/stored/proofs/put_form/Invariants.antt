@@ -1,15 +1,11 @@
 -- `stored::put_form` meets its contract: each turn of the loop puts the next octet. The measure is what is left of the form.
 -- Assumes nothing.
 use Prim.Native.Nat.{ℕ, ◌+◌, ◌-◌, ◌*◌, ◌≤◌}
-use native.Mathlib.Omega.{arith}
-use mathlib.Core.Path.{◌≡◌, refl, ap, ap₂, ◌∙◌}
+use mathlib.Core.Path.{◌≡◌}
 use mathlib.Core.List.{List, ◌++◌}
-use lib.ListN.{length, get_or, set, drop}
-use Rattle.refusals.specs.Call.{front}
+use lib.ListN.{length, get_or, drop}
 use Rattle.octets.specs.Bits.{listed}
-use Rattle.octets.proofs.Listed.{length-listed_front, listed_store, listed_self}
 use Rattle.stored.specs.Form.{form}
-use Rattle.stored.proofs.Places.{length-form}
 use Rattle.stored.proofs.put_form.Given as goal
 
 -- the first k octets of the form stand at the front of the output

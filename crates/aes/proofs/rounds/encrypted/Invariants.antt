@@ -1,15 +1,11 @@
 -- `aes::rounds::encrypted` meets its contract. The invariant of its loop: the columns are those of the state after n - 1 rounds. The measure is what is
 -- left of the ten rounds.
 -- Assumes nothing.
-use Prim.Native.Nat.{ℕ, ◌+◌, ◌-◌, ◌≤◌, ◌<◌}
-use native.Mathlib.Omega.{arith}
-use mathlib.Core.Path.{◌≡◌, ap, ◌∙◌}
-use mathlib.Core.List.{List}
+use Prim.Native.Nat.{◌-◌, ◌≤◌, ◌<◌}
+use mathlib.Core.Path.{◌≡◌}
 use Rattle.octets.specs.Octets.{AreOctets}
-use Rattle.aes.specs.Aes.{state_of, rounds, block_of}
-use Rattle.aes.specs.Columns.{columns_of, held}
-use Rattle.aes.specs.declared.rounds.Columns.{Columns}
-use Rattle.aes.proofs.States.{one_round_more, block_encrypted}
+use Rattle.aes.specs.Aes.{state_of, rounds}
+use Rattle.aes.specs.Columns.{columns_of}
 use Rattle.aes.proofs.rounds.encrypted.Given as goal
 
 abbrev pub invariant-loop-n : goal.invariant-loop-n

@@ -1,10 +1,10 @@
 -- `aes::schedule::expanded` meets its contract. The invariant of its loop: the first i words stand at the front, and the last of them is at hand. The measure is what is left of the 44
 -- words.
 -- Assumes nothing.
-use Prim.Native.Nat.{ℕ, ◌+◌, ◌-◌, ◌≤◌}
+use Prim.Native.Nat.{ℕ, ◌+◌, ◌-◌}
 use native.Mathlib.Omega.{arith}
 use mathlib.Core.Path.{◌≡◌, refl, sym, ap, ◌∙◌}
-use mathlib.Core.List.{List, ◌++◌, append-nil}
+use mathlib.Core.List.{List, ◌++◌}
 use lib.ListN.{length, get_or, set, drop, replicate}
 use lib.Seq.{get_or-set_same}
 use Rattle.octets.proofs.Listed.{length_front}

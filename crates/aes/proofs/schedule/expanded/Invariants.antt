@@ -1,15 +1,11 @@
 -- `aes::schedule::expanded` meets its contract. The invariant of its loop: the first i words stand at the front, and the last of them is at hand. The measure is what is left of the 44
 -- words.
 -- Assumes nothing.
-use Prim.Native.Nat.{ℕ, ◌+◌, ◌-◌, ◌≤◌}
-use native.Mathlib.Omega.{arith}
-use mathlib.Core.Path.{◌≡◌, refl, sym, ap, ◌∙◌}
-use mathlib.Core.List.{List, ◌++◌, append-nil}
-use lib.ListN.{length, get_or, set, drop, replicate}
-use lib.Seq.{get_or-set_same}
-use Rattle.octets.proofs.Listed.{length_front}
+use Prim.Native.Nat.{◌-◌, ◌≤◌}
+use mathlib.Core.Path.{◌≡◌}
+use mathlib.Core.List.{◌++◌}
+use lib.ListN.{get_or, drop}
 use Rattle.aes.specs.Aes.{expanded}
-use Rattle.aes.proofs.Expansion.{length-expanded, word_put}
 use Rattle.aes.proofs.schedule.expanded.Given as goal
 
 abbrev pub invariant-loop-i : goal.invariant-loop-i

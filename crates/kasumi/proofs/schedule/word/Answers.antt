@@ -1,8 +1,6 @@
 -- `kasumi::schedule::word` meets its contract: two octets of the key make the word.
 -- Assumes nothing.
-use Prim.Native.Nat.{◌+◌, ◌-◌, ◌*◌, ◌%◌}
 use mathlib.Core.Path.{refl}
-use native.Mathlib.Omega.{arith}
 use Rattle.kasumi.specs.Kasumi.{key_word}
 use Rattle.kasumi.proofs.schedule.word.Goals as goal
 

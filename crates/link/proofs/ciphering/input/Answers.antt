@@ -1,6 +1,5 @@
 -- `link::ciphering::input` meets its contract: the sum wraps after the xor.
 -- Assumes nothing.
-use Rattle.std.proofs.Common.{rules}
 use Rattle.link.specs.Input.{input_of}
 use Rattle.link.proofs.ciphering.input.Goals as goal
 

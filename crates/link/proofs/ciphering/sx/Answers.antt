@@ -1,6 +1,6 @@
 -- `link::ciphering::sx` meets its contract.
 -- Assumes nothing.
-use Rattle.std.proofs.Common.{arith, rules}
+use Rattle.std.proofs.Common.{arith}
 use Rattle.link.specs.Input.{sx}
 use Rattle.link.proofs.ciphering.sx.Goals as goal
 

@@ -2,10 +2,7 @@
 -- Assumes nothing.
 use native.Mathlib.Omega.{arith}
 use mathlib.Core.Path.{◌∙◌}
-use mathlib.Core.List.{◌++◌}
-use Prim.Native.Nat.{◌-◌, ◌%◌}
-use lib.ListN.{get_or}
-use Rattle.octets.proofs.Filling.{Filled, filled_none, filled_more, filled_all}
+use Rattle.octets.proofs.Filling.{filled_none, filled_more, filled_all}
 use Rattle.milenage.proofs.Octets.{in1_octets}
 use Rattle.milenage.proofs.strings.in1.Goals as goal
 

@@ -1,12 +1,9 @@
 -- `milenage::strings::in1` meets its contract: each turn of the loop puts the octet at the place among the eight. The measure is what is left of the 16.
 -- Assumes nothing.
-use native.Mathlib.Omega.{arith}
-use mathlib.Core.Path.{◌∙◌}
 use mathlib.Core.List.{◌++◌}
 use Prim.Native.Nat.{◌-◌, ◌%◌}
 use lib.ListN.{get_or}
-use Rattle.octets.proofs.Filling.{Filled, filled_none, filled_more, filled_all}
-use Rattle.milenage.proofs.Octets.{in1_octets}
+use Rattle.octets.proofs.Filling.{Filled}
 use Rattle.milenage.proofs.strings.in1.Given as goal
 
 abbrev pub invariant-loop-i : goal.invariant-loop-i

@@ -1,10 +1,9 @@
 -- `milenage::strings::put` meets its contract: all of the octets are copied.
 -- Assumes nothing.
-use mathlib.Core.Path.{ap, ◌∙◌}
+use mathlib.Core.Path.{ap}
 use mathlib.Core.List.{List, ◌++◌}
 use Prim.Native.Nat.{ℕ}
 use lib.ListN.{length, drop}
-use lib.Seq.{take-length}
 use Rattle.refusals.specs.Call.{front}
 use Rattle.milenage.proofs.strings.put.Goals as goal
 

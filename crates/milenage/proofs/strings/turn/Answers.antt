@@ -4,13 +4,12 @@
 use Rattle.std.proofs.Common.{rules}
 use native.Mathlib.Omega.{arith}
 use mathlib.Core.List.{List}
-use Prim.Native.Nat.{ℕ, ◌+◌, ◌-◌, ◌/◌, ◌%◌}
-use mathlib.Core.Path.{◌≡◌, refl}
-use Rattle.octets.specs.Bits.{bit_of, part, octet, size, stored}
-use Rattle.octets.proofs.Filling.{Filled, filled_none, filled_more, filled_all}
+use Prim.Native.Nat.{ℕ, ◌+◌, ◌/◌, ◌%◌}
+use mathlib.Core.Path.{refl}
+use Rattle.octets.specs.Bits.{size, stored}
+use Rattle.octets.proofs.Filling.{filled_none, filled_more, filled_all}
 use Rattle.milenage.specs.Milenage.{turned}
 use Rattle.milenage.proofs.Octets.{turned_octet}
-use Rattle.milenage.proofs.strings.turn.Invariants.{octet_at}
 use Rattle.milenage.proofs.strings.turn.Goals as goal
 
 pub loop-i-init : goal.loop-i-init

@@ -1,14 +1,11 @@
 -- `milenage::strings::turn` meets its contract: each turn of the loop puts an octet from `rotation / 8` places further on. The measure is what is left of
 -- the 16.
 -- Assumes nothing.
-use native.Mathlib.Omega.{arith}
 use mathlib.Core.List.{List}
 use Prim.Native.Nat.{ℕ, ◌+◌, ◌-◌, ◌/◌, ◌%◌}
-use mathlib.Core.Path.{◌≡◌, refl}
-use Rattle.octets.specs.Bits.{bit_of, part, octet, size, stored}
-use Rattle.octets.proofs.Filling.{Filled, filled_none, filled_more, filled_all}
-use Rattle.milenage.specs.Milenage.{turned}
-use Rattle.milenage.proofs.Octets.{turned_octet}
+use mathlib.Core.Path.{◌≡◌}
+use Rattle.octets.specs.Bits.{bit_of, part, octet}
+use Rattle.octets.proofs.Filling.{Filled}
 use Rattle.milenage.proofs.strings.turn.Given as goal
 
 -- octet i of the turned string

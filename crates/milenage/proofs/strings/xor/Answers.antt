@@ -3,12 +3,10 @@
 use native.Mathlib.Omega.{arith}
 use mathlib.Core.Path.{refl, sym, ap, ◌∙◌}
 use mathlib.Core.List.{List}
-use Prim.Native.Nat.{ℕ, ◌-◌}
-use lib.Bits.{bit_xor}
-use lib.ListN.{get_or}
+use Prim.Native.Nat.{ℕ}
 use Rattle.octets.specs.Bits.{listed}
 use Rattle.octets.specs.Xor.{xored}
-use Rattle.octets.proofs.Filling.{Filled, filled_none, filled_more, filled_all}
+use Rattle.octets.proofs.Filling.{filled_none, filled_more, filled_all}
 use Rattle.milenage.proofs.strings.xor.Invariants.{octet_at}
 use Rattle.milenage.proofs.strings.xor.Goals as goal
 

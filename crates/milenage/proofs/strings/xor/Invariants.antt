@@ -1,14 +1,10 @@
 -- `milenage::strings::xor` meets its contract: each turn of the loop puts the xor of two octets. The measure is what is left of the 16.
 -- Assumes nothing.
-use native.Mathlib.Omega.{arith}
-use mathlib.Core.Path.{refl, sym, ap, ◌∙◌}
 use mathlib.Core.List.{List}
 use Prim.Native.Nat.{ℕ, ◌-◌}
 use lib.Bits.{bit_xor}
 use lib.ListN.{get_or}
-use Rattle.octets.specs.Bits.{listed}
-use Rattle.octets.specs.Xor.{xored}
-use Rattle.octets.proofs.Filling.{Filled, filled_none, filled_more, filled_all}
+use Rattle.octets.proofs.Filling.{Filled}
 use Rattle.milenage.proofs.strings.xor.Given as goal
 
 -- octet i of the xor

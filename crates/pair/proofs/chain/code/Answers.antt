@@ -1,7 +1,7 @@
 -- `pair::chain::code` meets its contract. The loop's invariant: `a` and `b` are A and B after n blocks. The measure is what is left of the blocks.
 -- Assumes nothing.
 use Rattle.std.proofs.Common.{rules}
-use Prim.Native.Nat.{ℕ, zero, suc, ◌+◌, ◌-◌, ◌^◌, ◌≤◌, ◌<◌}
+use Prim.Native.Nat.{ℕ, zero, suc, ◌+◌, ◌^◌, ◌<◌}
 use native.Mathlib.Decide.{dec_lt}
 use native.Mathlib.Numerals.{add-one}
 use native.Mathlib.Omega.{arith}
@@ -19,7 +19,6 @@ use Rattle.kasumi.specs.Lent.{round_words, ciphered_by}
 use Rattle.kasumi.proofs.Lent.{ciphered_kasumi}
 use Rattle.pair.specs.F9.{zeros_after, padded, block_of, chained, gathered, modifier, code_of, f9_code}
 use Rattle.pair.proofs.Padded.{length-padded}
-use Rattle.pair.proofs.chain.code.Invariants.{Chained}
 use Rattle.pair.proofs.chain.code.Goals.{At-loop-n}
 use Rattle.pair.proofs.chain.code.Goals as goal
 

@@ -1,23 +1,9 @@
 -- `pair::chain::code` meets its contract. The loop's invariant: `a` and `b` are A and B after n blocks. The measure is what is left of the blocks.
 -- Assumes nothing.
-use Prim.Native.Nat.{ℕ, zero, suc, ◌+◌, ◌-◌, ◌^◌, ◌≤◌, ◌<◌}
-use native.Mathlib.Decide.{dec_lt}
-use native.Mathlib.Numerals.{add-one}
-use native.Mathlib.Omega.{arith}
-use mathlib.Core.Path.{◌≡◌, refl, sym, ap, ap₂, subst, ◌∙◌}
+use Prim.Native.Nat.{ℕ, ◌-◌, ◌^◌, ◌≤◌, ◌<◌}
+use mathlib.Core.Path.{◌≡◌}
 use mathlib.Core.List.{List}
-use lib.Bits.{bit_xor, xor_lt}
-use lib.Dec.{lit<}
-use lib.ListN.{length, get_or, replicate, get_or-eq_default}
-use Rattle.octets.specs.Octets.{AreOctets}
-use Rattle.octets.specs.Xor.{xored}
-use Rattle.octets.proofs.Listed.{get_or-listed}
-use Rattle.octets.proofs.Xored.{length-xored}
-use Rattle.kasumi.specs.Kasumi.{left, kasumi}
-use Rattle.kasumi.specs.Lent.{round_words, ciphered_by}
-use Rattle.kasumi.proofs.Lent.{ciphered_kasumi}
-use Rattle.pair.specs.F9.{zeros_after, padded, block_of, chained, gathered, modifier, code_of, f9_code}
-use Rattle.pair.proofs.Padded.{length-padded}
+use Rattle.pair.specs.F9.{padded, chained, gathered}
 use Rattle.pair.proofs.chain.code.Given as goal
 
 -- A and B after n blocks

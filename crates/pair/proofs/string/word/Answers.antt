@@ -1,7 +1,7 @@
 -- `pair::string::word` meets its contract: each turn of the loop appends the eight bits of the next octet. The measure is what is left of the eight octets.
 -- Assumes nothing.
 use Rattle.std.proofs.Common.{rules}
-use Prim.Native.Nat.{ℕ, ◌+◌, ◌-◌, ◌*◌, ◌^◌, ◌≤◌, ◌<◌}
+use Prim.Native.Nat.{ℕ, ◌+◌, ◌*◌, ◌^◌, ◌<◌}
 use native.Mathlib.Nat.{lt_of_lt_of_le}
 use native.Mathlib.Omega.{arith}
 use mathlib.Core.Path.{◌≡◌, refl, sym, ap, subst, ◌∙◌}
@@ -11,7 +11,7 @@ use lib.Pow.{pow_mono}
 use Rattle.octets.specs.Bits.{bit_of, number, octet}
 use Rattle.octets.proofs.Number.{number_ext, number_add, number_lt}
 use Rattle.octets.proofs.Stored.{bit_of_lt, octet_bit_of}
-use Rattle.pair.proofs.string.word.Invariants.{bit_from, Read}
+use Rattle.pair.proofs.string.word.Invariants.{bit_from}
 use Rattle.pair.proofs.string.word.Goals.{After-shared_slice_known-1, At-loop-j, In-loop-j}
 use Rattle.pair.proofs.string.word.Goals as goal
 

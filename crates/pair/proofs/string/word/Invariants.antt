@@ -1,15 +1,9 @@
 -- `pair::string::word` meets its contract: each turn of the loop appends the eight bits of the next octet. The measure is what is left of the eight octets.
 -- Assumes nothing.
-use Prim.Native.Nat.{ℕ, ◌+◌, ◌-◌, ◌*◌, ◌^◌, ◌≤◌, ◌<◌}
-use native.Mathlib.Nat.{lt_of_lt_of_le}
-use native.Mathlib.Omega.{arith}
-use mathlib.Core.Path.{◌≡◌, refl, sym, ap, subst, ◌∙◌}
+use Prim.Native.Nat.{ℕ, ◌+◌, ◌-◌, ◌*◌, ◌≤◌}
+use mathlib.Core.Path.{◌≡◌}
 use mathlib.Core.List.{List}
-use lib.ListN.{get_or}
-use lib.Pow.{pow_mono}
-use Rattle.octets.specs.Bits.{bit_of, number, octet}
-use Rattle.octets.proofs.Number.{number_ext, number_add, number_lt}
-use Rattle.octets.proofs.Stored.{bit_of_lt, octet_bit_of}
+use Rattle.octets.specs.Bits.{bit_of, number}
 use Rattle.pair.proofs.string.word.Given as goal
 
 -- the bits from octet `at` on
