@@ -5,15 +5,16 @@
 mod form;
 mod requests;
 
-ghost use Rattle.std.specs.Prelude.{true, ◌≡◌, ◌≤◌, length};
+ghost use Rattle.std.specs.Prelude.{◌≡◌, ◌≤◌, IfOk, length};
 ghost use Rattle.lines.specs.Hearing.{heard_after, standing};
 ghost use Rattle.stream.specs.Answer.{largest_answer};
 ghost use Rattle.stream.specs.Stream.{stream_rules};
 
-use libc::{STDIN_FILENO, STDOUT_FILENO};
 use lines::Heard;
+use std::io;
+use std::io::Read;
 
-// What has been heard so far, and whether to go on. Where a write has failed nothing is left to answer.
+// What has been heard so far, and whether to go on.
 #[derive(Clone, Copy)]
 struct Moved {
     heard: Heard,
@@ -21,67 +22,57 @@ struct Moved {
 }
 
 // Hears a piece of the input, octet by octet, and writes each answer.
-fn hear_piece(heard: Heard, piece: &[u8], output: &mut [u8]) -> Moved
+fn hear_piece(
+    rt: HostRuntime,
+    heard: Heard,
+    piece: &[u8],
+    output: &mut [u8],
+) -> io::Result<Heard>
     requires { largest_answer ≤ length output.old }
-    ensures { result.on ≡ true → standing result.heard ≡ heard_after stream_rules (standing heard) piece.now }
+    ensures { IfOk result (λ last. standing last ≡ heard_after stream_rules (standing heard) piece.now) }
 {
     let mut so_far = heard;
-    let mut i = 0;
-    while i < piece.len() {
-        let told = requests::hear(so_far, piece[i], output);
+    for octet in piece {
+        let told = requests::hear(so_far, *octet, output);
         let written = told.written;
-        if !io::write_all(STDOUT_FILENO, &output[..written]) {
-            let nothing = requests::start();
-            return Moved {
-                heard: nothing,
-                on: false,
-            };
-        }
-        let next = told.heard;
-        so_far = next;
-        i += 1;
+        rt.write_all(&output[..written])?;
+        so_far = told.heard;
     }
-    Moved {
-        heard: so_far,
-        on: true,
-    }
+    Ok(so_far)
 }
 
 // Reads one piece of the input and hears it. The input ends where nothing can be read.
-fn move_piece(heard: Heard, output: &mut [u8]) -> Moved
+fn move_piece(rt: HostRuntime, heard: Heard, output: &mut [u8]) -> io::Result<Moved>
     requires { largest_answer ≤ length output.old }
 {
-    let mut piece = io::large_buffer();
-    let got = libc::read(STDIN_FILENO, &mut piece);
-    if got <= 0 {
-        return Moved { heard, on: false };
+    let mut piece = [0u8; 65536];
+    let size = rt.stdin().read(&mut piece)?;
+    if size == 0 {
+        return Ok(Moved { heard, on: false });
     }
-    let size = io::count(got, &piece);
-    hear_piece(heard, &piece[..size], output)
+    let heard = hear_piece(rt, heard, &piece[..size], output)?;
+    Ok(Moved { heard, on: true })
 }
 
-// A proved loop has to end, and nothing says that the input does. So the loop counts its turns down, from a number that no run uses up.
-fn move_all(output: &mut [u8]) -> Heard
+// A proved loop has to end, and nothing says that the input does. So the loop has a number of turns that no run uses up.
+fn move_all(rt: HostRuntime, output: &mut [u8]) -> io::Result<Heard>
     requires { largest_answer ≤ length output.old }
 {
     let mut heard = requests::start();
-    let mut turns = u64::MAX;
-    while turns > 0 {
-        let moved = move_piece(heard, output);
-        let next = moved.heard;
-        heard = next;
+    for _ in 0..u64::MAX {
+        let moved = move_piece(rt, heard, output)?;
+        heard = moved.heard;
         if !moved.on {
-            return heard;
+            break;
         }
-        turns -= 1;
     }
-    heard
+    Ok(heard)
 }
 
-fn main() {
+fn main(rt: HostRuntime) -> io::Result<()> {
     let mut output = [0u8; 3041];
-    let heard = move_all(&mut output);
+    let heard = move_all(rt, &mut output)?;
     let last = requests::finish(heard, &mut output);
     let written = last.count;
-    io::write_all(STDOUT_FILENO, &output[..written]);
+    rt.write_all(&output[..written])
 }

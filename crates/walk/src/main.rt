@@ -4,14 +4,15 @@
 
 mod walks;
 
-ghost use Rattle.std.specs.Prelude.{true, ◌≡◌, ◌≤◌, length};
+ghost use Rattle.std.specs.Prelude.{◌≡◌, ◌≤◌, IfOk, length};
 ghost use Rattle.lines.specs.Hearing.{heard_after};
 ghost use Rattle.walk.specs.Walk.{room, walk_rules, standing};
 
-use libc::{STDIN_FILENO, STDOUT_FILENO};
+use std::io;
+use std::io::Read;
 use walks::Walk;
 
-// Where the walk stands, and whether to go on. Where a write has failed nothing is left to answer.
+// Where the walk stands, and whether to go on.
 #[derive(Clone, Copy)]
 struct Moved {
     walk: Walk,
@@ -19,72 +20,60 @@ struct Moved {
 }
 
 // Hears a piece of the input, octet by octet, and writes each answer.
-fn hear_piece(walk: Walk, piece: &[u8], output: &mut [u8]) -> Moved
+fn hear_piece(
+    rt: HostRuntime,
+    walk: Walk,
+    piece: &[u8],
+    output: &mut [u8],
+) -> io::Result<Walk>
     requires { room ≤ length output.old }
-    ensures { result.on ≡ true → standing result.walk ≡ heard_after walk_rules (standing walk) piece.now }
+    ensures { IfOk result (λ last. standing last ≡ heard_after walk_rules (standing walk) piece.now) }
 {
     let mut so_far = walk;
-    let mut i = 0;
-    while i < piece.len() {
-        let told = walks::hear(so_far, piece[i], output);
+    for octet in piece {
+        let told = walks::hear(so_far, *octet, output);
         let written = told.written;
-        if !io::write_all(STDOUT_FILENO, &output[..written]) {
-            let nothing = walks::start();
-            return Moved {
-                walk: nothing,
-                on: false,
-            };
-        }
-        let next = told.walk;
-        so_far = next;
-        i += 1;
+        rt.write_all(&output[..written])?;
+        so_far = told.walk;
     }
-    Moved {
-        walk: so_far,
-        on: true,
-    }
+    Ok(so_far)
 }
 
 // Reads one piece of the input and hears it. The input ends where nothing can be read.
-fn move_piece(walk: Walk, output: &mut [u8]) -> Moved
+fn move_piece(rt: HostRuntime, walk: Walk, output: &mut [u8]) -> io::Result<Moved>
     requires { room ≤ length output.old }
 {
-    let mut piece = io::large_buffer();
-    let got = libc::read(STDIN_FILENO, &mut piece);
-    if got <= 0 {
-        return Moved { walk, on: false };
+    let mut piece = [0u8; 65536];
+    let size = rt.stdin().read(&mut piece)?;
+    if size == 0 {
+        return Ok(Moved { walk, on: false });
     }
-    let size = io::count(got, &piece);
-    hear_piece(walk, &piece[..size], output)
+    let walk = hear_piece(rt, walk, &piece[..size], output)?;
+    Ok(Moved { walk, on: true })
 }
 
-// A proved loop has to end, and nothing says that the input does. So the loop counts its turns down, from a number that no run uses up.
-fn move_all(output: &mut [u8]) -> Walk
+// A proved loop has to end, and nothing says that the input does. So the loop has a number of turns that no run uses up.
+fn move_all(rt: HostRuntime, output: &mut [u8]) -> io::Result<Walk>
     requires { room ≤ length output.old }
 {
     let mut walk = walks::start();
-    let mut turns = u64::MAX;
-    while turns > 0 {
-        let moved = move_piece(walk, output);
-        let next = moved.walk;
-        walk = next;
+    for _ in 0..u64::MAX {
+        let moved = move_piece(rt, walk, output)?;
+        walk = moved.walk;
         if !moved.on {
-            return walk;
+            break;
         }
-        turns -= 1;
     }
-    walk
+    Ok(walk)
 }
 
-fn main() {
+fn main(rt: HostRuntime) -> io::Result<()> {
     let mut output = [0u8; 44];
     let header = walks::header(&mut output);
     let size = header.count;
-    if !io::write_all(STDOUT_FILENO, &output[..size]) {
-        return;
-    }
-    let walk = move_all(&mut output);
+    rt.write_all(&output[..size])?;
+    let walk = move_all(rt, &mut output)?;
     let last = walks::finish(walk, &mut output);
     let written = last.count;
-    io::write_all(STDOUT_FILENO, &output[..written]);
+    rt.write_all(&output[..written])
 }
