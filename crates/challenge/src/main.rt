@@ -24,12 +24,7 @@ struct Moved {
 }
 
 // Hears a piece of the input, octet by octet, and writes each answer.
-fn hear_piece(
-    rt: HostRuntime,
-    heard: Heard,
-    piece: &[u8],
-    output: &mut [u8],
-) -> io::Result<Heard>
+fn hear_piece(rt: HostRuntime, heard: Heard, piece: &[u8], output: &mut [u8]) -> io::Result<Heard>
     requires { largest_answer ≤ length output.old }
     ensures { IfOk result (λ last. standing last ≡ heard_after challenge_rules (standing heard) piece.now) }
 {

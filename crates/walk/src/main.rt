@@ -20,12 +20,7 @@ struct Moved {
 }
 
 // Hears a piece of the input, octet by octet, and writes each answer.
-fn hear_piece(
-    rt: HostRuntime,
-    walk: Walk,
-    piece: &[u8],
-    output: &mut [u8],
-) -> io::Result<Walk>
+fn hear_piece(rt: HostRuntime, walk: Walk, piece: &[u8], output: &mut [u8]) -> io::Result<Walk>
     requires { room ≤ length output.old }
     ensures { IfOk result (λ last. standing last ≡ heard_after walk_rules (standing walk) piece.now) }
 {
