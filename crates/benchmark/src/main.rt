@@ -6,9 +6,10 @@
 
 mod calls;
 
-ghost use Rattle.std.specs.Prelude.{◌≡◌, ◌≤◌, length};
+ghost use Rattle.std.specs.Prelude.{ℕ, ◌≡◌, ◌≢◌, ◌≤◌, ◌<◌, IfOk, length, slice_index};
 
-use libc::{STDIN_FILENO, STDOUT_FILENO};
+use std::io;
+use std::io::Read;
 
 // One call, and its sum.
 fn one(
@@ -60,19 +61,33 @@ fn many(what: u64, m: usize, count: u32, output: &mut [u8]) -> u8
     sum
 }
 
-fn told(sum: u8) {
+fn told(rt: HostRuntime, sum: u8) -> io::Result<()> {
     let octets = [sum];
     let mut text = [0u8; 2];
     lines::hex_of_octets(&octets, &mut text);
-    io::write_all(STDOUT_FILENO, &text);
-    io::write_all(STDOUT_FILENO, b"\n");
+    rt.write_all(&text)?;
+    rt.write_all(b"\n")
+}
+
+// The place of the first such octet of a text, or the text's length where there is none.
+fn find(text: &[u8], octet: u8) -> usize
+    ensures within { result ≤ length text.now }
+    ensures before { (k : ℕ) → k < result → slice_index text.now k ≢ octet }
+    ensures found { result < length text.now → slice_index text.now result ≡ octet }
+{
+    for (i, other) in text.iter().enumerate() {
+        if *other == octet {
+            return i;
+        }
+    }
+    text.len()
 }
 
 // A number up to `most`, at the start of a text, before an octet; 0 where there is none.
 fn number_before(text: &[u8], octet: u8, most: u64) -> u64
     ensures { result ≤ most }
 {
-    let end = bytes::scan::find(text, 0, text.len(), octet);
+    let end = find(text, octet);
     let read = lines::decimal(&text[..end]);
     if most < read.value {
         return 0;
@@ -82,7 +97,7 @@ fn number_before(text: &[u8], octet: u8, most: u64) -> u64
 
 // What stands after the first octet of a kind.
 fn after(text: &[u8], octet: u8) -> &[u8] {
-    let end = bytes::scan::find(text, 0, text.len(), octet);
+    let end = find(text, octet);
     if end < text.len() {
         return &text[end + 1..];
     }
@@ -97,7 +112,7 @@ fn space() -> [u8; 65542]
 }
 
 // A line WHAT M COUNT.
-fn answer(line: &[u8]) {
+fn answer(rt: HostRuntime, line: &[u8]) -> io::Result<()> {
     let what = number_before(line, b' ', 7);
     let rest = after(line, b' ');
     let m = number_before(rest, b' ', 65536) as usize;
@@ -105,11 +120,26 @@ fn answer(line: &[u8]) {
     let mut output = space();
     let end = m + 6;
     let sum = many(what, m, count, &mut output[..end]);
-    told(sum);
+    told(rt, sum)
 }
 
-fn main() {
+// Reads until the line is full or the input ends, and answers how many octets were read.
+fn read_full(rt: HostRuntime, line: &mut [u8]) -> io::Result<usize>
+    ensures { IfOk result (λ count. count ≤ length line.new) }
+{
+    let mut count = 0;
+    while count < line.len() {
+        let size = rt.stdin().read(&mut line[count..])?;
+        if size == 0 {
+            break;
+        }
+        count += size;
+    }
+    Ok(count)
+}
+
+fn main(rt: HostRuntime) -> io::Result<()> {
     let mut line = [0u8; 64];
-    let got = io::read_full(STDIN_FILENO, &mut line);
-    answer(&line[..got]);
+    let got = read_full(rt, &mut line)?;
+    answer(rt, &line[..got])
 }
