@@ -1,17 +1,22 @@
 // The calls of bit strings in octets.
 use crate::fields::Given;
 use crate::{fields, tell};
+use std::io;
 
 // size BITS, first_bits OCTET COUNT, octet_or_zero OCTETS PLACE
-pub(crate) fn answer(which: u8, given: &Given) -> bool {
+pub(crate) fn answer(rt: HostRuntime, which: u8, given: &Given) -> io::Result<()> {
     match which {
-        b'0' => tell::number(octets::size(fields::number32(given, 1)) as u64),
+        b'0' => tell::number(rt, octets::size(fields::number32(given, 1)) as u64),
         b'1' => tell::number(
+            rt,
             octets::first_bits(fields::number8(given, 1), fields::size(given, 2)) as u64,
         ),
         _ => {
             let source = fields::octets(given, 1);
-            tell::number(octets::octet_or_zero(source, fields::size(given, 2)) as u64)
+            tell::number(
+                rt,
+                octets::octet_or_zero(source, fields::size(given, 2)) as u64,
+            )
         }
     }
 }

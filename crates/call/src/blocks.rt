@@ -1,12 +1,15 @@
 // The calls of AES. The words of an expanded key are octets here, four a word, the highest first.
 use crate::fields::Given;
 use crate::{fields, states, tell};
+use std::io;
 
 // expand_key KEY
-pub(crate) fn expand_key(given: &Given) -> bool {
+pub(crate) fn expand_key(rt: HostRuntime, given: &Given) -> io::Result<()> {
     let expanded = aes::expand_key(fields::octets(given, 1));
     let words = expanded.words;
-    tell::refusal(expanded.refusal) & tell::space() & tell::words32(&words)
+    tell::refusal(rt, expanded.refusal)?;
+    tell::space(rt)?;
+    tell::words32(rt, &words)
 }
 
 // The words of octets, which come in one by one.
@@ -21,11 +24,11 @@ fn words_of(octets: &[u8]) -> [u32; 44] {
 }
 
 // encrypt_block WORDS BLOCK
-pub(crate) fn encrypt_block(given: &Given) -> bool {
+pub(crate) fn encrypt_block(rt: HostRuntime, given: &Given) -> io::Result<()> {
     let words = words_of(fields::octets(given, 1));
     let block = states::block(given, 2);
     let encrypted = aes::encrypt_block(&words, &block);
-    tell::hex(&encrypted)
+    tell::hex(rt, &encrypted)
 }
 
 // aes KEY BLOCK ROOM

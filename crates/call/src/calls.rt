@@ -4,6 +4,7 @@ use crate::{
     bits, blocks, challenges, ciphers, ends, fields, forms, headers, links, messages, numbers,
     rounds, tell,
 };
+use std::io;
 
 // What the table says of a line: whose call it is, which of theirs, and the place of its last field, which is NONE where the line is no call.
 #[derive(Clone, Copy)]
@@ -17,9 +18,9 @@ fn find(line: &[u8], table: &[u8], given: &mut Given) -> Found {
     let name = fields::text(line, 0);
     let mut start = 0;
     while start < table.len() {
-        let end = bytes::scan::find(table, start, table.len(), b' ');
-        let colon = bytes::scan::find(table, start, end, b':');
-        if check::same(name, &table[start..colon]) {
+        let end = fields::octet_place(table, start, table.len(), b' ');
+        let colon = fields::octet_place(table, start, end, b':');
+        if name == &table[start..colon] {
             return read(line, &table[colon..end], given);
         }
         start = end + 1;
@@ -41,7 +42,7 @@ fn read(line: &[u8], entry: &[u8], given: &mut Given) -> Found {
 
 // The answer to a line. In the table of calls each has its name, : and then a letter for the function that makes it, a digit by which that function
 // knows it, and a letter for each of its fields. A capital is for `told`, and a small letter for `told_lent` and `put`.
-pub(crate) fn answer(line: &[u8]) -> bool {
+pub(crate) fn answer(rt: HostRuntime, line: &[u8]) -> io::Result<()> {
     let mut given = [b'\n'; 16384];
     lines::put_text(line, &mut given);
     let found = find(
@@ -69,52 +70,58 @@ pub(crate) fn answer(line: &[u8]) -> bool {
         cipher:l0k4114xs",
         &mut given,
     );
-    let could = if found.last == fields::NONE {
-        tell::bad()
+    if found.last == fields::NONE {
+        tell::bad(rt)?;
     } else {
-        told(found, &given)
-    };
-    tell::line_end(could)
+        told(rt, found, &given)?;
+    }
+    tell::line_end(rt)
 }
 
 // Makes a call and tells all that it hands out.
-fn told(found: Found, given: &Given) -> bool {
+fn told(rt: HostRuntime, found: Found, given: &Given) -> io::Result<()> {
     let whose = found.whose;
     match whose {
-        b'C' => ciphers::answer(found.which, given),
-        b'F' => rounds::fi_table(),
-        b'K' => rounds::round_keys(given),
-        b'T' => rounds::cipher_block(given),
-        b'M' => messages::answer(found.which, given),
-        b'X' => blocks::expand_key(given),
-        b'B' => blocks::encrypt_block(given),
-        b'O' => bits::answer(found.which, given),
-        b'N' => numbers::answer(found.which, given),
-        b'H' => headers::answer(found.which, given),
-        b'L' => links::answer(found.which, given),
-        b'E' => ends::answer(found.which, given),
-        b'A' => ends::ask(found.which, given),
-        b'R' => forms::answer(found.which, given),
-        _ => lend(found, given),
+        b'C' => ciphers::answer(rt, found.which, given),
+        b'F' => rounds::fi_table(rt),
+        b'K' => rounds::round_keys(rt, given),
+        b'T' => rounds::cipher_block(rt, given),
+        b'M' => messages::answer(rt, found.which, given),
+        b'X' => blocks::expand_key(rt, given),
+        b'B' => blocks::encrypt_block(rt, given),
+        b'O' => bits::answer(rt, found.which, given),
+        b'N' => numbers::answer(rt, found.which, given),
+        b'H' => headers::answer(rt, found.which, given),
+        b'L' => links::answer(rt, found.which, given),
+        b'E' => ends::answer(rt, found.which, given),
+        b'A' => ends::ask(rt, found.which, given),
+        b'R' => forms::answer(rt, found.which, given),
+        _ => lend(rt, found, given),
     }
 }
 
 // Lends an output, whose size is the last field of the line.
-fn lend(found: Found, given: &Given) -> bool {
+fn lend(rt: HostRuntime, found: Found, given: &Given) -> io::Result<()> {
     let mut output = fields::blank();
     let size = fields::within(fields::size(given, found.last), &output);
-    told_lent(found.whose, found.which, given, &mut output[..size])
+    told_lent(rt, found.whose, found.which, given, &mut output[..size])
 }
 
 // Makes a call that is lent an output, and tells all that it hands out.
-fn told_lent(whose: u8, which: u8, given: &Given, output: &mut [u8]) -> bool {
+fn told_lent(
+    rt: HostRuntime,
+    whose: u8,
+    which: u8,
+    given: &Given,
+    output: &mut [u8],
+) -> io::Result<()> {
     match whose {
-        b'g' => ciphers::two_blocks(which, given, output),
-        b's' => ends::seal(given, output),
-        b'o' => ends::open(given, output),
+        b'g' => ciphers::two_blocks(rt, which, given, output),
+        b's' => ends::seal(rt, given, output),
+        b'o' => ends::open(rt, given, output),
         _ => {
             let refusal = put(whose, which, given, output);
-            tell::part(refusal, output)
+            tell::part(rt, refusal, output)
         }
     }
 }

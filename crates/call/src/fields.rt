@@ -1,7 +1,6 @@
 // The fields of a line, which stand between single spaces: field 0 is the name of the call, and each field has the form that a letter says. A call is
 // given fields that fit; then what a reader gives is what the field says.
-ghost use Rattle.std.specs.Prelude.{◌≡◌, ◌≤◌, length};
-ghost use Rattle.io.specs.Counts.{IsPrefixLen};
+ghost use Rattle.std.specs.Prelude.{ℕ, ◌≡◌, ◌≢◌, ◌≤◌, ◌<◌, length, slice_index};
 
 // What is given to a call: its line, line ends up to octet 8,192, and behind each field, by so much, the octets that its hex digits say.
 pub(crate) type Given = [u8; 16384];
@@ -15,22 +14,39 @@ struct Span {
     end: usize,
 }
 
+// The place of the first such octet of a text from `start` on and before `end`, or `end` where there is none.
+pub(crate) fn octet_place(text: &[u8], start: usize, end: usize, octet: u8) -> usize
+    requires { (start ≤ end) × (end ≤ length text.now) }
+    ensures within { (start ≤ result) × (result ≤ end) }
+    ensures before { (k : ℕ) → start ≤ k → k < result → slice_index text.now k ≢ octet }
+    ensures found { result < end → slice_index text.now result ≡ octet }
+{
+    let mut i = start;
+    while i < end {
+        if text[i] == octet {
+            return i;
+        }
+        i += 1;
+    }
+    end
+}
+
 // Field `place`. Where there are fewer, an empty one at the end of the line stands for it, which fits no letter.
 fn find(line: &[u8], place: usize) -> Span
     ensures { (result.start ≤ result.end) × (result.end ≤ length line.now) }
 {
-    let line_end = bytes::scan::find(line, 0, line.len(), b'\n');
+    let line_end = octet_place(line, 0, line.len(), b'\n');
     let mut start = 0;
     let mut left = place;
     while 0 < left {
-        let end = bytes::scan::find(line, start, line_end, b' ');
+        let end = octet_place(line, start, line_end, b' ');
         if end == line_end {
             return Span { start: end, end };
         }
         start = end + 1;
         left -= 1;
     }
-    let end = bytes::scan::find(line, start, line_end, b' ');
+    let end = octet_place(line, start, line_end, b' ');
     Span { start, end }
 }
 
@@ -81,7 +97,7 @@ fn is_count(letter: u8, text: &[u8], count: usize) -> bool {
         b'w' => count == 176,
         b'r' => count == 128,
         b't' => count == 1280,
-        _ => (0 < count) & (count <= 2560) | check::same(text, b"-"),
+        _ => (0 < count) & (count <= 2560) | (text == b"-".as_slice()),
     }
 }
 
@@ -159,7 +175,7 @@ pub(crate) fn blank() -> [u8; 65600]
 // How much of an output a line has lent: all that it asks for, since no size that fits is above what there is. It stands right before each use, where
 // the prover looks for what `&output[..n]` needs.
 pub(crate) fn within(size: usize, output: &[u8]) -> usize
-    ensures { IsPrefixLen result output.now }
+    ensures { result ≤ length output.now }
 {
     if output.len() < size {
         return output.len();

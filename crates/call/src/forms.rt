@@ -1,13 +1,14 @@
 // The calls of the stored forms of both ends.
 use crate::fields::Given;
 use crate::{fields, states};
+use std::io;
 
 // restore_sender OCTETS, and restore_receiver
-pub(crate) fn answer(which: u8, given: &Given) -> bool {
+pub(crate) fn answer(rt: HostRuntime, which: u8, given: &Given) -> io::Result<()> {
     let octets = fields::octets(given, 1);
     match which {
-        b'0' => states::tell_opened_sender(stored::restore_sender(octets)),
-        _ => states::tell_opened_receiver(stored::restore_receiver(octets)),
+        b'0' => states::tell_opened_sender(rt, stored::restore_sender(octets)),
+        _ => states::tell_opened_receiver(rt, stored::restore_receiver(octets)),
     }
 }
 

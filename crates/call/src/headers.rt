@@ -2,20 +2,21 @@
 use crate::fields::Given;
 use crate::{fields, tell};
 use frames::Header;
+use std::io;
 
 // look FRAME, header FRAME
-pub(crate) fn answer(which: u8, given: &Given) -> bool {
+pub(crate) fn answer(rt: HostRuntime, which: u8, given: &Given) -> io::Result<()> {
     let frame = fields::octets(given, 1);
     match which {
-        b'0' => tell::part(frames::look_refusal(frame), frames::look(frame)),
-        _ => tell_header(frames::header_of(frame)),
+        b'0' => tell::part(rt, frames::look_refusal(frame), frames::look(frame)),
+        _ => tell_header(rt, frames::header_of(frame)),
     }
 }
 
-fn tell_header(header: Header) -> bool {
-    tell::number(header.sapi as u64)
-        & tell::next_number(header.direction as u64)
-        & tell::next_number(header.sent as u64)
+fn tell_header(rt: HostRuntime, header: Header) -> io::Result<()> {
+    tell::number(rt, header.sapi as u64)?;
+    tell::next_number(rt, header.direction as u64)?;
+    tell::next_number(rt, header.sent as u64)
 }
 
 // put_header SAPI DIRECTION N SIZE ROOM

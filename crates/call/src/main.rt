@@ -17,73 +17,69 @@ mod rounds;
 mod states;
 mod tell;
 
-use libc::STDIN_FILENO;
+use std::io;
+use std::io::Read;
 
 // The answer to a line of which `count` octets were heard; one that fills the buffer is too long, and a bad line.
-fn answer_heard(line: &[u8], count: usize) -> bool {
+fn answer_heard(rt: HostRuntime, line: &[u8], count: usize) -> io::Result<()> {
     if count < line.len() {
-        calls::answer(&line[..count])
+        calls::answer(rt, &line[..count])
     } else {
-        tell::line_end(tell::bad())
+        tell::bad(rt)?;
+        tell::line_end(rt)
     }
 }
 
-// Stands for a number of octets where no more is to be heard: the input ended, or nothing can be written any more.
+// Stands for a number of octets where no more is to be heard: the input ended.
 const STOP: usize = usize::MAX;
 
 // Hears a piece of the input: octets go to the line while there is room, and a line end has it answered. Answers how many octets of the last line were
 // heard.
-fn hear(piece: &[u8], line: &mut [u8], heard: usize) -> usize {
+fn hear(rt: HostRuntime, piece: &[u8], line: &mut [u8], heard: usize) -> io::Result<usize> {
     let mut count = heard;
-    let mut i = 0;
-    while i < piece.len() {
-        if piece[i] == b'\n' {
-            if !answer_heard(line, count) {
-                return STOP;
-            }
+    for octet in piece {
+        if *octet == b'\n' {
+            answer_heard(rt, line, count)?;
             count = 0;
         } else if count < line.len() {
-            line[count] = piece[i];
+            line[count] = *octet;
             count += 1;
         }
-        i += 1;
     }
-    count
+    Ok(count)
 }
 
 // Reads once, and hears what came. Where the input ended, what was heard of a line that no line end ended is answered too.
-fn hear_some(line: &mut [u8], heard: usize) -> usize {
-    let mut piece = io::large_buffer();
-    let got = libc::read(STDIN_FILENO, &mut piece);
-    let n = io::count(got, &piece);
+fn hear_some(rt: HostRuntime, line: &mut [u8], heard: usize) -> io::Result<usize> {
+    let mut piece = [0u8; 65536];
+    let n = rt.stdin().read(&mut piece)?;
     if n == 0 {
-        hear_end(line, heard)
+        hear_end(rt, line, heard)
     } else {
-        hear(&piece[..n], line, heard)
+        hear(rt, &piece[..n], line, heard)
     }
 }
 
-fn hear_end(line: &[u8], heard: usize) -> usize {
+fn hear_end(rt: HostRuntime, line: &[u8], heard: usize) -> io::Result<usize> {
     if 0 < heard {
-        answer_heard(line, heard);
+        answer_heard(rt, line, heard)?;
     }
-    STOP
+    Ok(STOP)
 }
 
-// A proved loop has to end, and nothing says that the input does: the loop counts its turns down, from a number that no run uses up.
-fn hear_all(line: &mut [u8]) {
+// A proved loop has to end, and nothing says that the input does: the loop has a number of turns that no run uses up.
+fn hear_all(rt: HostRuntime, line: &mut [u8]) -> io::Result<()> {
     let mut heard = 0;
-    let mut turns = u64::MAX;
-    while 0 < turns {
-        heard = hear_some(line, heard);
+    for _ in 0..u64::MAX {
+        heard = hear_some(rt, line, heard)?;
         if heard == STOP {
-            return;
+            break;
         }
-        turns -= 1;
     }
+    Ok(())
 }
 
-fn main() {
+fn main(rt: HostRuntime) -> io::Result<()> {
     let mut line = [0u8; 8193];
-    hear_all(&mut line);
+    hear_all(rt, &mut line)
 }

@@ -2,9 +2,10 @@
 use crate::fields::Given;
 use crate::{fields, tell};
 use pair::{F8Inputs, F9Inputs};
+use std::io;
 
 // f9 KEY COUNT FRESH DIRECTION MESSAGE BITS, check_code KEY COUNT FRESH DIRECTION MESSAGE BITS CODE
-pub(crate) fn answer(which: u8, given: &Given) -> bool {
+pub(crate) fn answer(rt: HostRuntime, which: u8, given: &Given) -> io::Result<()> {
     let key = fields::octets(given, 1);
     let inputs = F9Inputs {
         count: fields::number32(given, 2),
@@ -16,11 +17,12 @@ pub(crate) fn answer(which: u8, given: &Given) -> bool {
     match which {
         b'0' => {
             let made = pair::f9(inputs, key, message, bits);
-            tell::refusal_and_word(made.refusal, made.code as u64, 4)
+            tell::refusal_and_word(rt, made.refusal, made.code as u64, 4)
         }
         _ => {
             let checked = pair::check_code(inputs, key, message, bits, fields::number32(given, 7));
-            tell::refusal(checked.refusal) & tell::next_number(checked.right as u64)
+            tell::refusal(rt, checked.refusal)?;
+            tell::next_number(rt, checked.right as u64)
         }
     }
 }

@@ -1,18 +1,21 @@
 // The calls of what the rounds of KASUMI are lent: the table for FI and the round keys. Their words are octets here, two a word, the higher first.
 use crate::fields::Given;
 use crate::{fields, tell};
+use std::io;
 
 // fi_table
-pub(crate) fn fi_table() -> bool {
+pub(crate) fn fi_table(rt: HostRuntime) -> io::Result<()> {
     let table = sboxes::fi_table();
-    tell::words16(&table)
+    tell::words16(rt, &table)
 }
 
 // round_keys KEY
-pub(crate) fn round_keys(given: &Given) -> bool {
+pub(crate) fn round_keys(rt: HostRuntime, given: &Given) -> io::Result<()> {
     let keys = kasumi::round_keys(fields::octets(given, 1));
     let words = keys.words;
-    tell::refusal(keys.refusal) & tell::space() & tell::words16(&words)
+    tell::refusal(rt, keys.refusal)?;
+    tell::space(rt)?;
+    tell::words16(rt, &words)
 }
 
 // Word i of octets, 0 past their end; a field has at most 1,280 words.
@@ -33,12 +36,13 @@ fn put_words(octets: &[u8], words: &mut [u16]) {
 }
 
 // cipher_block TABLE KEYS BLOCK
-pub(crate) fn cipher_block(given: &Given) -> bool {
+pub(crate) fn cipher_block(rt: HostRuntime, given: &Given) -> io::Result<()> {
     let mut table = [0u16; 640];
     put_words(fields::octets(given, 1), &mut table);
     let mut words = [0u16; 64];
     put_words(fields::octets(given, 2), &mut words);
     tell::word(
+        rt,
         kasumi::cipher_block(&table, &words, fields::number(given, 3)),
         8,
     )

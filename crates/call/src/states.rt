@@ -5,6 +5,7 @@ use link::Link;
 use numbering::Numbering;
 use receiver::{OpenedReceiver, Receiver};
 use sender::{OpenedSender, Sender};
+use std::io;
 
 // The 16 octets of a field.
 pub(crate) fn block(given: &Given, place: usize) -> [u8; 16] {
@@ -23,16 +24,17 @@ pub(crate) fn link(given: &Given) -> Link {
     }
 }
 
-pub(crate) fn tell_link(link: Link) -> bool {
+pub(crate) fn tell_link(rt: HostRuntime, link: Link) -> io::Result<()> {
     let key = link.key;
-    tell::buffer(&key)
-        & tell::next_number(link.iov as u64)
-        & tell::next_number(link.sapi as u64)
-        & tell::next_number(link.direction as u64)
+    tell::buffer(rt, &key)?;
+    tell::next_number(rt, link.iov as u64)?;
+    tell::next_number(rt, link.sapi as u64)?;
+    tell::next_number(rt, link.direction as u64)
 }
 
-pub(crate) fn tell_numbering(numbering: Numbering) -> bool {
-    tell::next_number(numbering.next as u64) & tell::next_number(numbering.marks as u64)
+pub(crate) fn tell_numbering(rt: HostRuntime, numbering: Numbering) -> io::Result<()> {
+    tell::next_number(rt, numbering.next as u64)?;
+    tell::next_number(rt, numbering.marks as u64)
 }
 
 // LINK NEXT RESERVED
@@ -44,15 +46,16 @@ pub(crate) fn sender(given: &Given) -> Sender {
     }
 }
 
-pub(crate) fn tell_sender(sender: Sender) -> bool {
-    tell_link(sender.link)
-        & tell::next_number(sender.next as u64)
-        & tell::next_number(sender.reserved as u64)
+pub(crate) fn tell_sender(rt: HostRuntime, sender: Sender) -> io::Result<()> {
+    tell_link(rt, sender.link)?;
+    tell::next_number(rt, sender.next as u64)?;
+    tell::next_number(rt, sender.reserved as u64)
 }
 
 // What opening a sender answers, and restoring one.
-pub(crate) fn tell_opened_sender(opened: OpenedSender) -> bool {
-    tell::refusal(opened.refusal) & tell_sender(opened.sender)
+pub(crate) fn tell_opened_sender(rt: HostRuntime, opened: OpenedSender) -> io::Result<()> {
+    tell::refusal(rt, opened.refusal)?;
+    tell_sender(rt, opened.sender)
 }
 
 // LINK NEXT MARKS
@@ -66,10 +69,12 @@ pub(crate) fn receiver(given: &Given) -> Receiver {
     }
 }
 
-pub(crate) fn tell_receiver(receiver: Receiver) -> bool {
-    tell_link(receiver.link) & tell_numbering(receiver.numbering)
+pub(crate) fn tell_receiver(rt: HostRuntime, receiver: Receiver) -> io::Result<()> {
+    tell_link(rt, receiver.link)?;
+    tell_numbering(rt, receiver.numbering)
 }
 
-pub(crate) fn tell_opened_receiver(opened: OpenedReceiver) -> bool {
-    tell::refusal(opened.refusal) & tell_receiver(opened.receiver)
+pub(crate) fn tell_opened_receiver(rt: HostRuntime, opened: OpenedReceiver) -> io::Result<()> {
+    tell::refusal(rt, opened.refusal)?;
+    tell_receiver(rt, opened.receiver)
 }
