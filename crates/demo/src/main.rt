@@ -7,14 +7,15 @@ mod hosts;
 mod play;
 mod plugs;
 
-ghost use Rattle.std.specs.Prelude.{true, ◌≡◌, ◌≤◌, length};
+ghost use Rattle.std.specs.Prelude.{◌≡◌, ◌≤◌, IfOk, length};
 ghost use Rattle.lines.specs.Hearing.{heard_after};
 ghost use Rattle.demo.specs.Play.{room, demo_rules, standing};
 
-use libc::{STDIN_FILENO, STDOUT_FILENO};
 use play::Play;
+use std::io;
+use std::io::Read;
 
-// Where the play stands, and whether to go on. Where a write has failed nothing is left to answer.
+// Where the play stands, and whether to go on.
 #[derive(Clone, Copy)]
 struct Moved {
     play: Play,
@@ -22,63 +23,51 @@ struct Moved {
 }
 
 // Hears a piece of the input, octet by octet, and writes each answer.
-fn hear_piece(mut play: Play, piece: &[u8], output: &mut [u8]) -> Moved
+fn hear_piece(rt: HostRuntime, mut play: Play, piece: &[u8], output: &mut [u8]) -> io::Result<Play>
     requires { room ≤ length output.old }
-    ensures { result.on ≡ true → standing result.play ≡ heard_after demo_rules (standing play) piece.now }
+    ensures { IfOk result (λ last. standing last ≡ heard_after demo_rules (standing play) piece.now) }
 {
-    let mut i = 0;
-    while i < piece.len() {
-        play = play::hear(play, piece[i], output);
+    for octet in piece {
+        play = play::hear(play, *octet, output);
         let written = play.written;
-        if !io::write_all(STDOUT_FILENO, &output[..written]) {
-            let nothing = play::new_play();
-            return Moved {
-                play: nothing,
-                on: false,
-            };
-        }
-        i += 1;
+        rt.write_all(&output[..written])?;
     }
-    Moved { play, on: true }
+    Ok(play)
 }
 
 // Reads one piece of the input and hears it. The input ends where nothing can be read.
-fn move_piece(play: Play, output: &mut [u8]) -> Moved
+fn move_piece(rt: HostRuntime, play: Play, output: &mut [u8]) -> io::Result<Moved>
     requires { room ≤ length output.old }
 {
-    let mut piece = io::large_buffer();
-    let got = libc::read(STDIN_FILENO, &mut piece);
-    if got <= 0 {
-        return Moved { play, on: false };
+    let mut piece = [0u8; 65536];
+    let size = rt.stdin().read(&mut piece)?;
+    if size == 0 {
+        return Ok(Moved { play, on: false });
     }
-    let size = io::count(got, &piece);
-    hear_piece(play, &piece[..size], output)
+    let play = hear_piece(rt, play, &piece[..size], output)?;
+    Ok(Moved { play, on: true })
 }
 
-// A proved loop has to end, and nothing says that the input does. So the loop counts its turns down, from a number that no run uses up.
-fn move_all(output: &mut [u8]) -> Play
+// A proved loop has to end, and nothing says that the input does. So the loop has a number of turns that no run uses up.
+fn move_all(rt: HostRuntime, output: &mut [u8]) -> io::Result<Play>
     requires { room ≤ length output.old }
 {
     let mut play = play::new_play();
-    let mut turns = u64::MAX;
-    while turns > 0 {
-        let moved = move_piece(play, output);
+    for _ in 0..u64::MAX {
+        let moved = move_piece(rt, play, output)?;
         play = moved.play;
         if !moved.on {
-            return play;
+            break;
         }
-        turns -= 1;
     }
-    play
+    Ok(play)
 }
 
-fn main() {
+fn main(rt: HostRuntime) -> io::Result<()> {
     let mut output = [0u8; 113];
     let size = play::put_heading(&mut output);
-    if !io::write_all(STDOUT_FILENO, &output[..size]) {
-        return;
-    }
-    let play = move_all(&mut output);
+    rt.write_all(&output[..size])?;
+    let play = move_all(rt, &mut output)?;
     let written = play::finish(play, &mut output);
-    io::write_all(STDOUT_FILENO, &output[..written]);
+    rt.write_all(&output[..written])
 }
