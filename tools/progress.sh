@@ -1,55 +1,47 @@
 # To be sourced: proves a crate with all that it uses, and says on standard error how far that is.
 
-# The crates that NAME reaches, itself last, in the order and in the batches in which rt proves them. For each: its name, the seconds that docs/COST.md
-# gives for it, and those of the batches after its own; before them, as `all`, those of all batches. A crate that the page does not have counts as 10.
+# The crates that NAME reaches, itself last, in the order in which rt proves them. For each: its name, the seconds that docs/COST.md gives for it, which
+# are taken only to compare crates, and those of all crates after it. A crate that the page does not have counts as 10.
 plan_of() {
-    local jobs
-    jobs=$(getconf _NPROCESSORS_ONLN 2>/dev/null || echo 2)
-    [ "$jobs" -le 4 ] || jobs=4
     awk -v name="$1" '
         function visit(n,    a, k, m) {
-            if (n in level || !(n in uses)) return
-            level[n] = 0
+            if (n in seen || !(n in uses)) return
+            seen[n] = 1
             m = split(uses[n], a, " ")
-            for (k = 1; k <= m; k++) { visit(a[k]); if (a[k] in level && level[a[k]] >= level[n]) level[n] = level[a[k]] + 1 }
-            print level[n], n
+            for (k = 1; k <= m; k++) visit(a[k])
+            print n
         }
         { sub(/#.*/, ""); i = index($0, ":"); if (i) uses[substr($0, 1, i - 1)] = substr($0, i + 1) }
-        END { visit(name) }' crates.txt | sort -s -n -k 1,1 | awk -v jobs="${RT_JOBS:-$jobs}" '
+        END { visit(name) }' crates.txt | awk '
         FILENAME != "-" {
             gsub(/[ `]/, "")
             m = split($0, field, "|")
             for (k = 1; k < m; k++) if (!(field[k] in seconds) && field[k + 1] ~ /^[0-9]+$/) seconds[field[k]] = field[k + 1]
             next
         }
-        {
-            if (!batch || $1 != at || held == jobs) { batch++; held = 0 }
-            at = $1; held++
-            name[++count] = $2; of[count] = batch
-            weight[count] = $2 in seconds ? seconds[$2] : 10
-            if (weight[count] > longest[batch]) longest[batch] = weight[count]
-        }
+        { name[++count] = $1; weight[count] = $1 in seconds ? seconds[$1] : 10 }
         END {
-            for (k = batch; k > 0; k--) rest[k] = rest[k + 1] + longest[k + 1]
-            print "all", rest[1] + longest[1]
-            for (k = 1; k <= count; k++) print name[k], weight[k], rest[of[k]]
+            for (k = count; k > 0; k--) rest[k] = rest[k + 1] + weight[k + 1]
+            for (k = 1; k <= count; k++) print name[k], weight[k], rest[k]
         }' docs/COST.md -
 }
 
 # A time in words.
 about() { if [ "$1" -ge 90 ]; then echo "about $((($1 + 30) / 60)) minutes"; else echo "about $((($1 + 9) / 10 * 10)) seconds"; fi; }
 
-# prove NAME: fails as rt does. What it is about to do is said once there is something to prove: when a crate was proved, or after two seconds of silence.
+# prove NAME: proves and compiles a program, and fails where that does. What it is about to do is said once there is something to prove: when a function
+# was proved, or after two seconds of silence. All that rt says is kept in target/log/NAME.out. rt runs the program too, here on nothing.
 prove() {
     local plan crates
     plan=$(plan_of "$1")
-    crates=$(($(printf '%s\n' "$plan" | wc -l) - 1))
-    rt check "$1" </dev/null | {
-        local line part='' patience='-t 2' crate told weight rest took=0 weighed=0 proved=0
+    crates=$(printf '%s\n' "$plan" | wc -l)
+    mkdir -p target/log
+    { (cd "crates/$1" && rt run </dev/null 2>&1 >/dev/null) || true; } | tee "target/log/$1.out" | {
+        local line part='' patience='-t 2' crate='' weight rest told took=0 weighed=0 at=$SECONDS stands=''
         begin() {
             [ -n "$patience" ] || return 0
             patience=''
-            echo "proving $1 and what it uses, $crates crates; the first time that takes $(about "$(printf '%s\n' "$plan" | sed -n 's/^all //p')")" >&2
+            echo "proving $1 and what it uses, $crates crates; the first time that takes minutes" >&2
         }
         while :; do
             if IFS= read -r $patience line; then
@@ -63,28 +55,21 @@ prove() {
                 break
             fi
             case $line in
-            'rt: '*' proved ('*)
-                proved=$((proved + 1))
-                crate=${line#rt: } crate=${crate%% *} told=${line##*(} told=${told% s)}
-                # a crate that is unchanged gives no seconds
-                case $told in *[!0-9]*) continue ;; esac
+            'fn '*': proved') begin "$1" ;;
+            'crate '*': modules loaded='*) crate=${line#crate } crate=${crate%%:*} ;;
+            'logic=proved '*)
                 begin "$1"
+                told=$((SECONDS - at)) at=$SECONDS
                 read -r weight rest < <(printf '%s\n' "$plan" | sed -n "s/^$crate //p")
-                took=$((took + told)) weighed=$((weighed + weight))
-                if [ "$weighed" -gt 0 ]; then rest=$((rest * took / weighed)); fi
-                echo "$crate is proved ($told s): $proved of $crates crates$([ "$proved" = "$crates" ] || echo ", $(about "$rest") to go")" >&2
+                took=$((took + told)) weighed=$((weighed + ${weight:-0}))
+                if [ "$weighed" -gt 0 ]; then rest=$((${rest:-0} * took / weighed)); fi
+                echo "$crate is proved ($told s)$([ "$crate" = "$1" ] || echo ": $(about "$rest") to go")" >&2
                 ;;
-            'rt: '*' NOT PROVED ('*)
-                crate=${line#rt: } crate=${crate%% *}
-                echo "$line; target/log/$crate.out says why" >&2
-                ;;
-            'rt: '*": what the program wrote is not what its file 'stdout' has")
-                crate=${line#rt: } crate=${crate%%:*}
-                echo "$line; target/log/$crate.stdout is what it wrote" >&2
-                ;;
-            'rt: ok, '*) if [ -n "$patience" ]; then echo "$1 is proved already" >&2; else echo "$line" >&2; fi ;;
-            'rt: '*) echo "$line" >&2 ;;
+            'logic=not-proved'*) echo "$crate is NOT PROVED; target/log/$1.out says why" >&2 ;;
+            'rt: nothing has changed '*) patience='' ; echo "$1 is proved already" >&2 ;;
+            'rt: running out/'*) stands=yes ;;
             esac
         done
+        [ -n "$stands" ] || { echo "$1 cannot be run; target/log/$1.out says why" >&2; false; }
     }
 }
