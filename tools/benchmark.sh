@@ -2,51 +2,19 @@
 # Times the proved program `benchmark` beside the second program built for release, in one run: its version with tables, and the club's baseline, which
 # evaluates the equations of S9 at each look-up (document 02, item 9) and computes the S-box of AES at each use. It is no test. With the word `lengths` it
 # times GEA4 alone, at many lengths.
-# Programs are compiled for x86-64; on another processor an emulated time means nothing, so there the very module that the kit compiles is compiled once
-# more by the kit's own compiler for this processor, to measure with.
 set -euo pipefail
 top=$(cd "$(dirname "$0")/.." && pwd -P)
 cd "$top"
 . tools/kit.sh
 . tools/progress.sh
 
+kit_there
 prove benchmark
 cargo build --quiet --release --offline --manifest-path second/Cargo.toml
 room=$(mktemp -d)
 trap 'rm -rf "$room"' EXIT
 
-# Compiles the proved module for this processor, to $room/native.
-build_native() {
-    local own toolchain dependency
-    own=$(kit_home)/on/$(uname -m)
-    toolchain=$room/toolchain
-    mkdir -p "$toolchain/bin"
-    ln -s "$own/toolchain/lib" "$toolchain/lib"
-    for tool in "$own"/toolchain/bin/*; do
-        [ "$(basename "$tool")" = clang ] || ln -s "$tool" "$toolchain/bin/"
-    done
-    cat >"$toolchain/bin/clang" <<WRAPPER
-#!/bin/sh
-for word in "\$@"; do case \$word in *.bc) cp "\$word" "$room/module.bc" ;; esac; done
-exec "$own/toolchain/bin/clang" "\$@"
-WRAPPER
-    chmod +x "$toolchain/bin/clang"
-    set --
-    for dependency in std $(sed -n 's/^benchmark: //p' crates.txt); do
-        if [ -d "crates/$dependency" ]; then set -- "$@" --extern "$dependency=target/rlib/$dependency.rlib"; else set -- "$@" --extern "$dependency=$own/rlib/$dependency.rlib"; fi
-    done
-    "$own/bin/rattle" build --crate-name benchmark crates/benchmark/src/main.rt "$@" -L dependency=target/rlib -L "dependency=$own/rlib" \
-        --antt-project "$(kit_home)/logic/antt-project.json" --logic-built "$own/logic-built" --toolchain "$toolchain" -o "$room/other.o" >"$room/log" 2>&1 || { cat "$room/log" >&2; exit 1; }
-    "$own/toolchain/bin/clang" --target="$(uname -m)-unknown-linux-gnu" -O3 -x ir -c "$room/module.bc" -o "$room/native.o" 2>"$room/log" || { cat "$room/log" >&2; exit 1; }
-    gcc "$room/native.o" -o "$room/native"
-}
-
-if [ "$(uname -m)" = x86_64 ]; then
-    ours() { printf '%s\n' "$*" | run_proved benchmark; }
-else
-    build_native
-    ours() { printf '%s\n' "$*" | "$room/native"; }
-fi
+ours() { printf '%s\n' "$*" | run_proved benchmark; }
 second=$top/second/target/release/second
 # shellcheck disable=SC2086
 baseline() { $second baseline $1; }

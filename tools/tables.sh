@@ -8,7 +8,7 @@ cd "$top/crates/sboxes/specs"
 numbers() { grep -v '^#' | grep -oE '[0-9]+'; }
 table() { sed -n "/^$1 =/,/\[\]/p" Tables.antt | sed '1d' | numbers; }
 for n in 7 9; do
-    cmp <(table "s${n}Table") <(numbers <"$top/vectors/kasumi-S$n.txt") || { echo "s${n}Table is not the published S$n" >&2; exit 1; }
+    cmp <(table "s${n}_table") <(numbers <"$top/vectors/kasumi-S$n.txt") || { echo "s${n}_table is not the published S$n" >&2; exit 1; }
     # a published equation `y0 = x1x3 ^ x4 ^ 1` is written `(x1 * x3 + x4 + 1) % 2`
     cmp <(sed -n "/^gates$n x0/,/\[\]/p" Gates.antt | sed -nE 's/^ *\((.*)\) % 2.*/\1/p') \
         <(sed -n "/^S$n\$/,/^\$/p" "$top/vectors/kasumi-gates.txt" | sed -nE 's/^y[0-9] = //p' | sed -E 's/([0-9])x/\1 * x/g; s/ \^ / + /g') \
