@@ -41,7 +41,7 @@ tools/browse "$room" >/dev/null || failed=1
 tools/links || failed=1
 tools/layers --check || failed=1
 
-for file in crates/using/src/main.rt crates/using/stdout crates/using/proofs/seal/Proof.antt; do
+for file in crates/using/src/main.rt crates/using/stdout crates/using/proofs/seal/Answers.antt; do
     cmp -s <(shown docs/USING.md "$file") "$file" || fault "docs/USING.md does not show $file as it is"
 done
 
