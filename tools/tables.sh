@@ -1,6 +1,6 @@
 #!/usr/bin/env bash
-# Fails when the tables or the gate equations of the definitions are not the published ones in vectors/, or when the numbers of the code's S9, or of its
-# picture, are not those of the published equations.
+# Fails when the tables or the gate equations of the definitions are not the published ones in vectors/, when the numbers of the code's S9, or of its
+# picture, are not those of the published equations, or when the code has another table than those of S7 and of AES: S9 is to be none of its constants.
 set -euo pipefail
 top=$(cd "$(dirname "$0")/.." && pwd -P)
 cd "$top/crates/sboxes/specs"
@@ -26,3 +26,10 @@ code=$(sed -n '/fn s9(/,/^}/p' ../src/boxes.rt | grep -oE '0x[0-9A-F]+' | sed -n
 picture=$(grep -oE '>[0-9A-F]{3}<' "$top/docs/pictures/s9.svg" | tr -d '<>')
 [ "$code" = "$equations" ] || { echo 'the numbers of s9 are not those of the published equations' >&2; exit 1; }
 [ "$picture" = "$code" ] || { echo 'docs/pictures/s9.svg does not have the numbers of s9' >&2; exit 1; }
+
+# A table is a list of more than 64 words between brackets.
+found=$(for source in "$top"/crates/*/src/*.rt "$top"/crates/*/src/*/*.rt; do
+    [ ! -f "$source" ] || sed 's|//.*||' "$source" | tr -d '\n' | grep -oE '\[[^][;]*\]' | awk -F , -v name="${source#"$top"/crates/}" '
+        { count = NF - ($NF ~ /^[ ]*\]$/) } count > 64 { print name, count }' || true
+done)
+[ "$found" = $'aes/src/table.rt 256\nsboxes/src/boxes.rt 128' ] || { printf 'the code has other tables than those of S7 and of AES:\n%s\n' "$found" >&2; exit 1; }
