@@ -39,7 +39,7 @@ module _ (header : Header) (payload : List ℕ) where
     pub frame_framed : 1 ≤ length payload → length payload ≤ 1520 → Framed (frame header payload)
     unfolding frame header_octets pair pair_at
     frame_framed some most = record {
-      whole = record { seven_least = omega arith; count_least = omega arith; count_most = omega arith; length-is = omega arith };
+      whole = record { seven_least = omega arith; count_least = omega arith; count_most = omega arith; length_is = omega arith };
       version = refl;
       zero_bits = record { service = omega arith; sent = omega arith };
     }
@@ -99,7 +99,7 @@ module _ (octets : List ℕ) (each : AreOctets octets) (nothing : first (look_or
   unfolding frame header_octets pair payload_of header_of pair_at
   frame_of_octets =
       let p : ℕ = length (drop 6 octets) in
-      let count-is : p + 4 ≡ get_or octets 0 0 * 256 + get_or octets 1 0 = omega (arith, framed.whole.seven_least, framed.whole.length-is, length-drop 6 octets) in
+      let count-is : p + 4 ≡ get_or octets 0 0 * 256 + get_or octets 1 0 = omega (arith, framed.whole.seven_least, framed.whole.length_is, length-drop 6 octets) in
       let high : (p + 4) / 256 ≡ get_or octets 0 0 = omega (arith, count-is, each 1) in
       let low : (p + 4) % 256 ≡ get_or octets 1 0 = omega (arith, count-is, each 1) in
       let version : 1 ≡ get_or octets 2 0 = sym framed.version in

@@ -16,7 +16,7 @@ pub record Whole (octets : List ℕ) : Type 0 where
   pub seven_least : 7 ≤ length octets
   pub count_least : 5 ≤ pair_at octets 0
   pub count_most : pair_at octets 0 ≤ 1524
-  pub length-is : length octets ≡ pair_at octets 0 + 2
+  pub length_is : length octets ≡ pair_at octets 0 + 2
 
 -- the zero bits
 pub record ZeroBits (octets : List ℕ) : Type 0 where
@@ -40,12 +40,12 @@ module _ (octets : List ℕ) where
         seven_least = leb-true _ _ outer.0;
         count_least = leb-true _ _ inner.0;
         count_most = leb-true _ _ last.0;
-        length-is = eqb-true _ _ last.1;
+        length_is = eqb-true _ _ last.1;
       }
 
   pub says_whole : Whole octets → is_whole octets ≡ true
   unfolding is_whole
-  says_whole w = simp (le-leb _ _ w.seven_least, le-leb _ _ w.count_least, le-leb _ _ w.count_most, eq-eqb _ _ w.length-is)
+  says_whole w = simp (le-leb _ _ w.seven_least, le-leb _ _ w.count_least, le-leb _ _ w.count_most, eq-eqb _ _ w.length_is)
 
   pub zero_bits_say : has_zero_bits octets ≡ true → ZeroBits octets
   unfolding has_zero_bits

@@ -125,7 +125,7 @@ integrity = record {
       let direction_is = direction_told inputs inputs' message message' bits bits' same fits.direction fits'.direction in
       record {
         inputs_are = λ i. record { count = count-is i; fresh = fresh-is i; direction = direction_is i };
-        length-is = bits_told inputs inputs' message message' bits bits' same;
+        length_is = bits_told inputs inputs' message message' bits bits' same;
         bits_are = message_told inputs inputs' message message' bits bits' same;
       };
   reads_each = λ inputs message message' bits i below differ same. differ (message_told inputs inputs message message' bits bits same i below);

@@ -71,8 +71,8 @@ pub record Feeds : Type 0 where
   pub ck_to_f8 : (key opc rand before : List ℕ) {after : List ℕ} → Answered (f3_call key opc rand before) 0 [] after
       → (inputs : F8Inputs) (message : List ℕ) (bits : ℕ) (output : List ℕ) → inputs.bearer ≤ 31 → inputs.direction ≤ 1
       → 0 < bits → bits ≤ 20000 → size bits ≤ length message → size bits ≤ length output
-      → {refusal : ℕ} {numbers output-after : List ℕ} → Answered (f8_call inputs (take 16 after) message bits output) refusal numbers output-after
-      → (refusal ≡ 0) × (output-after ≡ front (f8_output inputs (f3_output key opc rand) message bits) output)
+      → {refusal : ℕ} {numbers output_after : List ℕ} → Answered (f8_call inputs (take 16 after) message bits output) refusal numbers output_after
+      → (refusal ≡ 0) × (output_after ≡ front (f8_output inputs (f3_output key opc rand) message bits) output)
   pub ik_to_f9 : (key opc rand before : List ℕ) {after : List ℕ} → Answered (f4_call key opc rand before) 0 [] after
       → (inputs : F9Inputs) (message : List ℕ) (bits : ℕ) → inputs.direction ≤ 1 → 0 < bits → bits ≤ 20000 → size bits ≤ length message
       → {refusal code : ℕ} → Answered (f9_call inputs (take 16 after) message bits) refusal (code ∷ []) tt

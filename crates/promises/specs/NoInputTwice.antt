@@ -37,23 +37,23 @@ pub record Senders (sending : Sending) (Opened : ℕ → sending.State → Type 
 
 -- a sender newly opened under a prepared key: it was handed a key, of 8 octets or of 16, that yields these 16 octets. So a key of 8 octets and its
 -- doubled form are one key here
-pub record OpenedUnder (prepared-key : List ℕ) (iov direction sapi : ℕ) (sender : Sender) : Type 0 where
+pub record OpenedUnder (prepared_key : List ℕ) (iov direction sapi : ℕ) (sender : Sender) : Type 0 where
   pub key : List ℕ
-  pub yields : prepared key ≡ prepared-key
+  pub yields : prepared key ≡ prepared_key
   pub sender_opened : Answered (open_sender_call key iov sapi direction) 0 [] sender
 
 -- the senders of the bench, newly opened under one prepared key, with one offset and direction
 abbrev pub BenchSenders : List ℕ → ℕ → ℕ → Type 0
-BenchSenders prepared-key iov direction = Senders bench_sending (OpenedUnder prepared-key iov direction)
+BenchSenders prepared_key iov direction = Senders bench_sending (OpenedUnder prepared_key iov direction)
 
 -- a new host with a sender newly opened under a prepared key
-pub record HostUnder (prepared-key : List ℕ) (iov direction sapi : ℕ) (host : Host) : Type 0 where
+pub record HostUnder (prepared_key : List ℕ) (iov direction sapi : ℕ) (host : Host) : Type 0 where
   pub new : NewHost host
-  pub under : OpenedUnder prepared-key iov direction sapi host.sender
+  pub under : OpenedUnder prepared_key iov direction sapi host.sender
 
 -- careful hosts, newly opened under one prepared key, with one offset and direction
 abbrev pub HostSenders : List ℕ → ℕ → ℕ → Type 0
-HostSenders prepared-key iov direction = Senders careful_sending (HostUnder prepared-key iov direction)
+HostSenders prepared_key iov direction = Senders careful_sending (HostUnder prepared_key iov direction)
 
 -- a frame that one of the senders sealed: its service, and which of that sender's frames it is
 pub record SealedFrame (frames : ℕ → List SentFrame) : Type 0 where
@@ -83,9 +83,9 @@ TwoCallsTwoInputs iov frames =
 
 -- and this is the INPUT that was used: what stands after a frame's header is its payload xor the GEA4 octets of this INPUT
 abbrev pub CipheredUnderInput : List ℕ → ℕ → ℕ → (ℕ → List SentFrame) → Type 0
-CipheredUnderInput prepared-key iov direction frames =
+CipheredUnderInput prepared_key iov direction frames =
     (one : SealedFrame frames)
-    → payload_of one.frame.octets ≡ xored one.frame.payload (gea4_output prepared-key (input_used iov one) direction (length one.frame.payload))
+    → payload_of one.frame.octets ≡ xored one.frame.payload (gea4_output prepared_key (input_used iov one) direction (length one.frame.payload))
 
 -- senders of all assigned services, each of which has sealed so many frames
 pub record AllHaveSealed (sending : Sending) (Opened : ℕ → sending.State → Type 0) (count : ℕ) : Type 0 where
@@ -96,11 +96,11 @@ pub record AllHaveSealed (sending : Sending) (Opened : ℕ → sending.State →
 pub record NoInputTwice : Type 0 where
   pub formula : DifferentInputs
   -- of the senders of the bench
-  pub sealed : (prepared-key : List ℕ) (iov direction : ℕ) (senders : BenchSenders prepared-key iov direction) → TwoCallsTwoInputs iov senders.frames
-  pub used : (prepared-key : List ℕ) (iov direction : ℕ) (senders : BenchSenders prepared-key iov direction) → CipheredUnderInput prepared-key iov direction senders.frames
+  pub sealed : (prepared_key : List ℕ) (iov direction : ℕ) (senders : BenchSenders prepared_key iov direction) → TwoCallsTwoInputs iov senders.frames
+  pub used : (prepared_key : List ℕ) (iov direction : ℕ) (senders : BenchSenders prepared_key iov direction) → CipheredUnderInput prepared_key iov direction senders.frames
   -- and of careful hosts, over all their restarts
-  pub hosts_sealed : (prepared-key : List ℕ) (iov direction : ℕ) (senders : HostSenders prepared-key iov direction) → TwoCallsTwoInputs iov senders.frames
-  pub hosts_used : (prepared-key : List ℕ) (iov direction : ℕ) (senders : HostSenders prepared-key iov direction) → CipheredUnderInput prepared-key iov direction senders.frames
+  pub hosts_sealed : (prepared_key : List ℕ) (iov direction : ℕ) (senders : HostSenders prepared_key iov direction) → TwoCallsTwoInputs iov senders.frames
+  pub hosts_used : (prepared_key : List ℕ) (iov direction : ℕ) (senders : HostSenders prepared_key iov direction) → CipheredUnderInput prepared_key iov direction senders.frames
   -- there are such senders, of every key, offset and direction, with as many frames as one likes, up to all 2^27 of each service
   pub some : (key : List ℕ) (iov direction count : ℕ) → is_key key ≡ true → is_direction direction ≡ true → count ≤ 2 ^ 27
       → AllHaveSealed bench_sending (OpenedUnder (prepared key) iov direction) count

@@ -45,7 +45,7 @@ pub record Fits (inputs : F9Inputs) : Type 0 where
 -- what a padded string tells: its inputs, its length, and each bit of its message
 pub record Told (inputs inputs' : F9Inputs) (message message' : List ℕ) (bits bits' : ℕ) : Type 0 where
   pub inputs_are : inputs ≡ inputs'
-  pub length-is : bits ≡ bits'
+  pub length_is : bits ≡ bits'
   pub bits_are : (i : ℕ) → i < bits → bit_of message i ≡ bit_of message' i
 
 -- f9, the integrity of the pair: what its padded string is made of and tells, what it takes, and when a code is right

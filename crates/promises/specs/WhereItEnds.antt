@@ -11,10 +11,10 @@ use Rattle.sender.specs.Sender.{open_sender_call, seal_call}
 use Rattle.promises.specs.NoInputTwice.{BenchSenders, SealedFrame, input_used}
 
 -- frame m of service s under one offset and frame n of service t under another, or the same, share their INPUT; both services are assigned
-pub record Meet (iov s m other-iov t n : ℕ) : Type 0 where
+pub record Meet (iov s m other_iov t n : ℕ) : Type 0 where
   pub one_assigned : is_service s ≡ true
   pub other_assigned : is_service t ≡ true
-  pub same : input_of iov s m ≡ input_of other-iov t n
+  pub same : input_of iov s m ≡ input_of other_iov t n
 
 -- where the theorem ends: past the last number, with two offsets, and with a sender or a state that is used twice; and what a repeated INPUT tells
 pub record WhereItEnds : Type 0 where
@@ -31,14 +31,14 @@ pub record WhereItEnds : Type 0 where
       → Answered (open_sender_call other_key iov sapi direction) 0 [] other
       → one ≡ other
   -- and a state that two seal calls are given seals two frames of one number, so of one INPUT, and leaves one state, so that what follows repeats too
-  pub state_twice : (sender : Sender) (one-payload other_payload one-before other-before : List ℕ) {m n one_size other-size : ℕ} {one_later other-later : Sender} {one-after other_After : List ℕ}
-      → Answered (seal_call sender one-payload one-before) 0 (m ∷ one_size ∷ []) (record { sender = one_later; output = one-after })
-      → Answered (seal_call sender other_payload other-before) 0 (n ∷ other-size ∷ []) (record { sender = other-later; output = other_After })
-      → (m ≡ n) × (one_later ≡ other-later)
+  pub state_twice : (sender : Sender) (one_payload other_payload one_before other_before : List ℕ) {m n one_size other_size : ℕ} {one_later other_later : Sender} {one_after other_after : List ℕ}
+      → Answered (seal_call sender one_payload one_before) 0 (m ∷ one_size ∷ []) (record { sender = one_later; output = one_after })
+      → Answered (seal_call sender other_payload other_before) 0 (n ∷ other_size ∷ []) (record { sender = other_later; output = other_after })
+      → (m ≡ n) × (one_later ≡ other_later)
   -- what a repeated INPUT tells everybody who listens: of two sealed frames of one prepared key and direction that share it, with payloads of one length,
   -- the xor of what is on the air is the xor of the payloads
-  pub tells : (prepared-key : List ℕ) (iov other-iov direction : ℕ) (senders : BenchSenders prepared-key iov direction) (others : BenchSenders prepared-key other-iov direction)
+  pub tells : (prepared_key : List ℕ) (iov other_iov direction : ℕ) (senders : BenchSenders prepared_key iov direction) (others : BenchSenders prepared_key other_iov direction)
       (one : SealedFrame senders.frames) (other : SealedFrame others.frames)
-      → input_used iov one ≡ input_used other-iov other
+      → input_used iov one ≡ input_used other_iov other
       → length one.frame.payload ≡ length other.frame.payload
       → xored (payload_of one.frame.octets) (payload_of other.frame.octets) ≡ xored one.frame.payload other.frame.payload

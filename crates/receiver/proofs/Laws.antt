@@ -42,9 +42,9 @@ module _ (w : ℕ) (narrow : w ≤ 512) (receiver : Receiver) (good : receiver_c
   link_good : link_can_arise receiver.link ≡ true
   link_good = (receiver_says w receiver good).0
 
-  length-is : length (payload_of octets) ≡ length payload
+  length_is : length (payload_of octets) ≡ length payload
   unfolding octets
-  length-is = ap length (payload_of_frame_at receiver.link n link_good payload) ∙ length-ciphered receiver.link n payload
+  length_is = ap length (payload_of_frame_at receiver.link n link_good payload) ∙ length-ciphered receiver.link n payload
 
   nothing : first (look_order octets) ≡ 0
   unfolding octets
@@ -91,7 +91,7 @@ module _ (w : ℕ) (narrow : w ≤ 512) (receiver : Receiver) (good : receiver_c
     open_no_room short =
         subst (λ (m : ℕ). Answered (open_call w receiver octets before) 4 (m ∷ 0 ∷ []) (record { receiver = receiver; output = before })) number_is
         (refused (open_call w receiver octets before) 4
-        (open_4 w receiver octets before good nothing ours numbered (omega (arith, length-is)))
+        (open_4 w receiver octets before good nothing ours numbered (omega (arith, length_is)))
         (eqb-false 4 0 refl))
 
     -- and with room its number is accepted, and the sender's payload stands at the front of the output
@@ -102,10 +102,10 @@ module _ (w : ℕ) (narrow : w ≤ 512) (receiver : Receiver) (good : receiver_c
     open_new room =
         let back : ciphered receiver.link (candidate_of w receiver octets) (payload_of octets) ≡ payload =
         ap₂ (ciphered receiver.link) number_is (payload_of_frame_at receiver.link n link_good payload) ∙ ciphered_twice receiver.link n payload in
-        let answer = done (open_call w receiver octets before) (open_0 w receiver octets before good nothing ours numbered (omega (arith, length-is))) in
+        let answer = done (open_call w receiver octets before) (open_0 w receiver octets before good nothing ours numbered (omega (arith, length_is))) in
         record {
           refusal_is = answer.refusal_is;
-          numbers_are = (λ i. sym number_is i ∷ sym length-is i ∷ []) ∙ answer.numbers_are;
+          numbers_are = (λ i. sym number_is i ∷ sym length_is i ∷ []) ∙ answer.numbers_are;
           lent_is = (λ i. record { receiver = after_accepting w receiver (sym number_is i); output = front (sym back i) before }) ∙ answer.lent_is;
         }
 

@@ -21,7 +21,7 @@ use Rattle.stored.proofs.Places.{high_at, low_at, version_at, offset_at, sapi_at
 -- ---- what reading asks of octets, as facts
 
 pub record Formed (version words : ℕ) (octets : List ℕ) : Type 0 where
-  pub length-is : length octets ≡ form_size words
+  pub length_is : length octets ≡ form_size words
   pub field_is : pair_at octets 0 + 2 ≡ form_size words
   pub version_is : get_or octets 2 0 ≡ version
 
@@ -31,11 +31,11 @@ module _ (version words : ℕ) (octets : List ℕ) where
   read_formed nothing =
       let passed : (k : ℕ) → (row_at (form_order version words octets) k).holds ≡ false = (then_and_only_then (form_order version words octets) tt 0 (sym nothing)).none.0 refl in
       let long = (and-eq-true_iff _ _).0 (not-false _ (passed 0)) in
-      record { length-is = eqb-true _ _ long.0; field_is = eqb-true _ _ long.1; version_is = eqb-true _ _ (not-false _ (passed 1)) }
+      record { length_is = eqb-true _ _ long.0; field_is = eqb-true _ _ long.1; version_is = eqb-true _ _ (not-false _ (passed 1)) }
 
   pub formed_read : Formed version words octets → first (form_order version words octets) ≡ 0
   unfolding first form_order is_form_long
-  formed_read formed = simp (eq-eqb _ _ formed.length-is, eq-eqb _ _ formed.field_is, eq-eqb _ _ formed.version_is)
+  formed_read formed = simp (eq-eqb _ _ formed.length_is, eq-eqb _ _ formed.field_is, eq-eqb _ _ formed.version_is)
 
 -- ---- what was written is read back
 
@@ -58,7 +58,7 @@ module _ (version : ℕ) (link : Link) (words : List ℕ) (sixteen : length link
   pub form_formed : Formed version (length words) (form version link words)
   unfolding pair_at
   form_formed = record {
-    length-is = length-form version link words sixteen;
+    length_is = length-form version link words sixteen;
     field_is = omega (arith, high_at version link words, low_at version link words);
     version_is = version_at version link words;
   }
@@ -152,7 +152,7 @@ module _ (octets : List ℕ) (each : AreOctets octets) where
   unfolding form pair link_in
   form_of_octets version n nothing =
       let formed = read_formed version n octets nothing in
-      let long : length octets ≡ 25 + 4 * n = formed.length-is in
+      let long : length octets ≡ 25 + 4 * n = formed.length_is in
       let words : List ℕ = words_from octets 0 n in
       let count : 23 + 4 * length words ≡ get_or octets 0 0 * 256 + get_or octets 1 0 = omega (arith, length-words octets 0 n, field formed) in
       let high : (23 + 4 * length words) / 256 ≡ get_or octets 0 0 = omega (arith, count, each 1) in

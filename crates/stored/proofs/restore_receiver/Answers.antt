@@ -53,7 +53,7 @@ returns-then-refusal-ne0 c =
     c.no_receiver.ensures
 
 pub link_in-link-requires : goal.link_in-link-requires
-link_in-link-requires c = omega (arith, (read_formed 1 2 _ (nothing c)).length-is)
+link_in-link-requires c = omega (arith, (read_formed 1 2 _ (nothing c)).length_is)
 
 pub returns-then-not-can_arise : goal.returns-then-not-can_arise
 unfolding restore_receiver_order

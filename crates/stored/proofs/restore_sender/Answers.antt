@@ -46,7 +46,7 @@ returns-then-refusal-ne0 c =
     c.no_sender.ensures
 
 pub link_in-link-requires : goal.link_in-link-requires
-link_in-link-requires c = omega (arith, (read_formed 1 1 _ (nothing c)).length-is)
+link_in-link-requires c = omega (arith, (read_formed 1 1 _ (nothing c)).length_is)
 
 pub returns-then-not-can_arise : goal.returns-then-not-can_arise
 unfolding restore_sender_order
