@@ -19,7 +19,7 @@ long : (c : Else-look_refusal-ne0) → 7 ≤ length c.args.frame.now
 long c = (looked_framed c.args.frame.now (nothing c)).whole.seven_least
 
 pub returns-then-look_refusal-ne0 : goal.returns-then-look_refusal-ne0
-returns-then-look_refusal-ne0 c = sym (looked_refused c.before.args.frame.now (rw c.look_refusal.ensures.refusal_is at c.if-look_refusal-ne0.true))
+returns-then-look_refusal-ne0 c = sym (looked_refused c.args.frame.now (rw c.look_refusal.ensures.refusal_is at c.if-look_refusal-ne0.true))
 
 pub slice_bounds-result-count : goal.slice_bounds-result-count
 slice_bounds-result-count c = omega (arith, long c)

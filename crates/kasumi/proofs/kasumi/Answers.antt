@@ -1,6 +1,5 @@
 -- `kasumi::kasumi` meets its contract: its one test is the refusal's cause, and by the table and the round keys it computes KASUMI.
 -- Assumes nothing.
-use borrow.Author.Tests.{not-true, not-false}
 use Prim.Native.Nat.{ℕ}
 use mathlib.Core.Path.{refl, sym, ap, ap₂, ◌∙◌}
 use mathlib.Core.List.{List, [], ◌∷◌}
@@ -14,16 +13,16 @@ use Rattle.kasumi.proofs.kasumi.Goals as goal
 
 pub returns-then-not-is_whole_key : goal.returns-then-not-is_whole_key
 unfolding first kasumi_order
-returns-then-not-is_whole_key c = record { refusal_is = rw (sym c.is_whole_key.ensures ∙ not-true _ c.if-not-is_whole_key.true-raw); numbers_are = refl; lent_is = refl }
+returns-then-not-is_whole_key c = record { refusal_is = rw (sym c.is_whole_key.ensures ∙ c.if-not-is_whole_key.true); numbers_are = refl; lent_is = refl }
 
 pub returns : goal.returns
 unfolding first kasumi_order
 returns c =
     let given = c.args in
     let key : List ℕ = given.key.now in
-    let octets : AreOctets key = λ i. omega (arith, c.shared_slice_known-1.given i) in
+    let octets : AreOctets key = λ i. omega (arith, c.type_inv.key i) in
     record {
-      refusal_is = rw (sym c.is_whole_key.ensures ∙ not-false _ c.if-not-is_whole_key.false-raw);
+      refusal_is = rw (sym c.is_whole_key.ensures ∙ c.if-not-is_whole_key.false);
       numbers_are = ap (λ (x : ℕ). x ∷ [])
           (c.cipher_block.ensures
           ∙ ap₂ (λ (table words : List ℕ). ciphered_by table words given.block) c.fi_table-table.ensures c.keys_of_rounds-words.ensures

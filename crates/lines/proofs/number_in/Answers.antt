@@ -3,7 +3,6 @@
 -- Assumes nothing.
 use Rattle.std.proofs.Common.{rules}
 use Prim.Native.Nat.{ℕ, ◌+◌, ◌*◌, ◌^◌, ◌<◌}
-use borrow.Author.Tests.{not-true, not-false}
 use lib.Dec.{lit<}
 use lib.ListN.{length, get_or, drop}
 use mathlib.Core.Bool.{true}
@@ -19,7 +18,7 @@ use Rattle.lines.proofs.number_in.Goals as goal
 
 -- all are digits: the loop is reached only so
 are_digits : (c : Else-not-all_digits) → all_digits c.args.base c.args.text.now ≡ true
-are_digits c = sym c.all_digits.ensures ∙ not-false _ c.if-not-all_digits.false-raw
+are_digits c = sym c.all_digits.ensures ∙ c.if-not-all_digits.false
 
 -- with the next digit the value still fits
 next_fits : (c : In-loop-i)
@@ -43,7 +42,7 @@ unfolding first digits_order is_number
 returns-then-not-all_digits c =
     record {
       refusal_is =
-          rw (within_both 1 c.args.most (length c.args.text.now) (omega arith) (omega arith), sym c.all_digits.ensures ∙ not-true _ c.if-not-all_digits.true-raw);
+          rw (within_both 1 c.args.most (length c.args.text.now) (omega arith) (omega arith), sym c.all_digits.ensures ∙ c.if-not-all_digits.true);
       numbers_are = refl;
       lent_is = refl;
     }

@@ -4,7 +4,7 @@
 use Rattle.std.proofs.Common.{rules}
 use Prim.Native.Nat.{ℕ, ◌+◌, ◌*◌, ◌%◌, ◌<◌}
 use native.Mathlib.Omega.{arith}
-use borrow.Author.Tests.{not-true, not-false, eq-eqb, ne_eqb}
+use borrow.Author.Tests.{eq-eqb, ne_eqb}
 use lib.ListN.{length, get_or, take, drop, set}
 use mathlib.Core.Bool.{true, false}
 use mathlib.Core.List.{List, [], ◌∷◌, ◌++◌}
@@ -20,7 +20,7 @@ use Rattle.lines.proofs.octets_of_hex.Goals as goal
 
 -- past the first two tests the text is pairs of hex digits
 are_digits : (c : Else-not-all_digits) → all_digits 16 c.args.text.now ≡ true
-are_digits c = sym c.all_digits.ensures ∙ not-false _ c.if-not-all_digits.false-raw
+are_digits c = sym c.all_digits.ensures ∙ c.if-not-all_digits.false
 
 are_hex : (c : Else-not-all_digits) → is_hex c.args.text.now ≡ true
 unfolding is_hex
@@ -48,7 +48,7 @@ returns-then-not-all_digits c =
     let given = c.args in
     let text = given.text.now in
     bad text given.output.now
-    (rw (eq-eqb (length text % 2) 0 (omega arith), sym c.all_digits.ensures ∙ not-true _ c.if-not-all_digits.true-raw))
+    (rw (eq-eqb (length text % 2) 0 (omega arith), sym c.all_digits.ensures ∙ c.if-not-all_digits.true))
 
 pub returns-then-output-count : goal.returns-then-output-count
 returns-then-output-count c =

@@ -40,7 +40,7 @@ out1-string-requires c = omega (arith, three_sizes _ _ _ (strings_right (goal.at
 pub returns : goal.returns
 unfolding first code_order
 returns c =
-    let given = c.before.args in
+    let given = c.args in
     let all : given.start + 8 - given.start ≡ 8 = omega arith in
     record {
       refusal_is = rw (strings_right (goal.at.returns c).Else-not-are_strings, numbers_right (goal.at.returns c).Else-not-are_numbers, le-ltb _ _ c.if-output-lt8.false);

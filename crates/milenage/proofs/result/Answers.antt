@@ -31,7 +31,7 @@ out-string-requires c = omega (arith, three_sizes _ _ _ (strings_right (goal.at.
 pub returns : goal.returns
 unfolding first result_order
 returns c =
-    let given = c.before.args in
+    let given = c.args in
     let all : given.part.start + given.part.size - given.part.start ≡ given.part.size = omega arith in
     record {
       refusal_is = rw (strings_right (goal.at.returns c).Else-not-are_strings, le-ltb _ _ c.if-output-size.false);

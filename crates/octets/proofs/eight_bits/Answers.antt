@@ -34,4 +34,4 @@ pub returns : goal.returns
 returns c =
     let at : ℕ = c.args.at in
     ap₂ (λ (high low : ℕ). (high * 256 + low) / 2 ^ (8 - at % 8) % 256) c.octet_or_zero-high.ensures c.octet_or_zero-low.ensures
-    ∙ sym (field c.args.source.now at (λ i. (c.shared_slice_known-1.given i).fits))
+    ∙ sym (field c.args.source.now at (λ i. (c.type_inv.source i).fits))

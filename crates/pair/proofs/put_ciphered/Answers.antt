@@ -20,30 +20,30 @@ use Rattle.pair.proofs.put_ciphered.Goals.{After-xor}
 use Rattle.pair.proofs.put_ciphered.Goals as goal
 
 abbrev key : After-xor → List ℕ
-key c = c.before.before.before.before.before.before.before.before.before.before.before.before.args.key.now
+key c = c.args.key.now
 
 abbrev message : After-xor → List ℕ
-message c = c.before.before.before.before.before.before.before.before.before.before.before.before.args.message.now
+message c = c.args.message.now
 
 abbrev before : After-xor → List ℕ
-before c = c.before.before.before.before.before.before.before.before.before.before.before.before.args.output.now
+before c = c.args.output.now
 
 abbrev bits : After-xor → ℕ
-bits c = c.before.before.before.before.before.before.before.before.before.before.before.before.args.bits
+bits c = c.args.bits
 
 -- bit i of the message xor the keystream, or past the last bit the message's own
 abbrev bit : After-xor → ℕ → ℕ
-bit c i = bit_xor (bit_of (message c) i) (part (key_bit (key c) (f8_core c.before.before.before.before.before.before.before.before.before.before.before.before.args.inputs)) 0 (bits c) i)
+bit c i = bit_xor (bit_of (message c) i) (part (key_bit (key c) (f8_core c.args.inputs)) 0 (bits c) i)
 
 -- the message is octets
 each : (c : After-xor) (i : ℕ) → get_or (message c) i 0 < 256
-each c i = omega (arith, c.shared_slice_known-2-1.given i)
+each c i = omega (arith, c.type_inv.message i)
 
 -- the octets of these bits stand at the front of the output
 put : (c : After-xor) → c.xor.new.output ≡ listed (octet (bit c)) (size (bits c)) ++ drop (size (bits c)) (before c)
 unfolding f8_core front size
 put c =
-    let inputs = f8_core c.before.args.inputs in
+    let inputs = f8_core c.args.inputs in
     let stream = kgcore_done inputs (key c) (bits c) c.room-stream.result c.kgcore.ensures (omega arith) (omega arith) (omega arith) (omega arith) (omega arith) (omega arith) in
     xor_put (message c) (key_bit (key c) inputs) (bits c) c.size-size.result _ _ (before c) c.xor.ensures c.size-size.ensures stream.1 (each c) (key_bit_lt (key c) inputs) (omega arith) (omega arith)
 
@@ -83,10 +83,10 @@ returns c =
     let n : ℕ = bits (goal.at.returns c).After-xor in
     let last : ℕ = size n - 1 in
     let all = c.size-size.ensures in
-    let key-bit : ℕ → ℕ = key_bit (key (goal.at.returns c).After-xor) (f8_core c.before.args.inputs) in
+    let key-bit : ℕ → ℕ = key_bit (key (goal.at.returns c).After-xor) (f8_core c.args.inputs) in
     ap₂ (λ (l : List ℕ) (k : ℕ). set l (k - 1) c.first_bits.result) (put (goal.at.returns c).After-xor) all
     ∙ stored_cleared (bit (goal.at.returns c).After-xor) n (size n) c.first_bits.result (drop (size n) (before (goal.at.returns c).After-xor))
-    (λ i. xor_lt 1 (bit_of (message (goal.at.returns c).After-xor) i) (part key-bit 0 n i) (bit_of_lt (message (goal.at.returns c).After-xor) i) (part_lt key-bit 0 n (key_bit_lt (key (goal.at.returns c).After-xor) (f8_core c.before.args.inputs)) i))
+    (λ i. xor_lt 1 (bit_of (message (goal.at.returns c).After-xor) i) (part key-bit 0 n i) (bit_of_lt (message (goal.at.returns c).After-xor) i) (part_lt key-bit 0 n (key_bit_lt (key (goal.at.returns c).After-xor) (f8_core c.args.inputs)) i))
     (omega arith) refl
     (c.first_bits.ensures
     ∙ ap₂ (λ (whole left : ℕ). octet (part (bit_at 8 whole) 0 left) 0)
@@ -94,6 +94,6 @@ returns c =
     ∙ get_or-listed_front (octet (bit (goal.at.returns c).After-xor)) (drop (size n) (before (goal.at.returns c).After-xor)) (size n) last 0 (omega (arith, some (goal.at.returns c).After-xor)))
     (omega (arith, all)))
     ∙ ap (λ (l : List ℕ). l ++ drop (size n) (before (goal.at.returns c).After-xor))
-    (stored_ext (bit (goal.at.returns c).After-xor) (f8_bit c.before.args.inputs (key (goal.at.returns c).After-xor) (message (goal.at.returns c).After-xor)) 0 0 n
+    (stored_ext (bit (goal.at.returns c).After-xor) (f8_bit c.args.inputs (key (goal.at.returns c).After-xor) (message (goal.at.returns c).After-xor)) 0 0 n
     (λ i below. ap (bit_xor (bit_of (message (goal.at.returns c).After-xor) (0 + i))) (ap (part key-bit 0 n) {y = i} (omega arith) ∙ part_in key-bit 0 n i below)))
-    ∙ sym (front_stored (f8_bit c.before.args.inputs (key (goal.at.returns c).After-xor) (message (goal.at.returns c).After-xor)) 0 n (before (goal.at.returns c).After-xor))
+    ∙ sym (front_stored (f8_bit c.args.inputs (key (goal.at.returns c).After-xor) (message (goal.at.returns c).After-xor)) 0 n (before (goal.at.returns c).After-xor))

@@ -1,6 +1,5 @@
 -- `script::asked` meets its contract: each test decides.
 -- Assumes nothing.
-use borrow.Author.Tests.{not-true, not-false}
 use mathlib.Core.Bool.{true}
 use mathlib.Core.Path.{◌≡◌, sym, ◌∙◌}
 use Rattle.script.specs.Script.{all_printable}
@@ -9,7 +8,7 @@ use Rattle.script.proofs.asked.Goals.{Else-not-all_printable}
 use Rattle.script.proofs.asked.Goals as goal
 
 printable : (c : Else-not-all_printable) → all_printable c.args.line.now ≡ true
-printable c = sym c.all_printable.ensures ∙ not-false _ c.if-not-all_printable.false-raw
+printable c = sym c.all_printable.ensures ∙ c.if-not-all_printable.false
 
 pub returns-then-line-gt-LONGEST : goal.returns-then-line-gt-LONGEST
 returns-then-line-gt-LONGEST c = is_long c.args.line.now c.if-line-gt-LONGEST.true
@@ -18,7 +17,7 @@ pub returns-then-line-eq0 : goal.returns-then-line-eq0
 returns-then-line-eq0 c = is_empty c.args.line.now c.if-line-gt-LONGEST.false c.if-line-eq0.true
 
 pub returns-then-not-all_printable : goal.returns-then-not-all_printable
-returns-then-not-all_printable c = is_octet c.args.line.now c.if-line-gt-LONGEST.false c.if-line-eq0.false (sym c.all_printable.ensures ∙ not-true _ c.if-not-all_printable.true-raw)
+returns-then-not-all_printable c = is_octet c.args.line.now c.if-line-gt-LONGEST.false c.if-line-eq0.false (sym c.all_printable.ensures ∙ c.if-not-all_printable.true)
 
 pub returns-then-line-eq35 : goal.returns-then-line-eq35
 returns-then-line-eq35 c =

@@ -6,4 +6,4 @@ use Rattle.aes.proofs.words.word_at.Goals as goal
 
 pub returns : goal.returns
 unfolding key_word
-returns c = (cc, λ k. omega (arith, c.shared_slice_known-5-1.given k))
+returns c = (cc, λ k. omega (arith, c.type_inv.octets k))

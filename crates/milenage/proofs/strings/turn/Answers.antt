@@ -20,7 +20,7 @@ loop-i-preserved c =
     let given = c.args in
     let string : List ℕ = given.string.now in
     let i : ℕ = c.loop-i.i in
-    let fits = (c.shared_slice_known-1.given ((i + given.rotation / 8) % 16)).fits in
+    let fits = (c.type_inv.string ((i + given.rotation / 8) % 16)).fits in
     (refl, filled_more _ c.loop-i.invariant.1 (omega arith) (turned_octet given.rotation string i (omega arith) (omega arith) fits))
 
 pub returns : goal.returns

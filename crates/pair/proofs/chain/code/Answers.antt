@@ -50,14 +50,14 @@ modified_octets key each i =
 
 -- where the round keys are prepared, and the start
 abbrev key : At-loop-n → List ℕ
-key c = c.before.before.before.before.before.before.before.before.before.args.key.now
+key c = c.args.key.now
 
 abbrev string : At-loop-n → List ℕ
-string c = padded c.before.before.before.before.before.before.before.before.before.args.inputs c.before.before.before.before.before.before.before.before.before.args.message.now c.before.before.before.before.before.before.before.before.before.args.bits
+string c = padded c.args.inputs c.args.message.now c.args.bits
 
 -- the key is octets
 each : (c : At-loop-n) (i : ℕ) → get_or (key c) i 0 < 256
-each c i = omega (arith, c.shared_slice_known-1.given i)
+each c i = omega (arith, c.type_inv.key i)
 
 -- by the table and the round keys of the key, the cipher is KASUMI under the key
 under_key : (c : At-loop-n) (x : ℕ) → x < 2 ^ 64

@@ -9,11 +9,11 @@ use Rattle.octets.specs.Bits.{bit_of, size}
 use Rattle.octets.proofs.Number.{number_ext}
 use Rattle.pair.specs.F9.{padded, block_of}
 use Rattle.pair.proofs.Blocks.{block_lt, first_block, message_block, one_block, full_block, ended_block}
-use Rattle.pair.proofs.string.block.Goals.{After-struct_known-2-1, After-struct_known-then-left-eq63-1}
+use Rattle.pair.proofs.string.block.Goals.{Else-left-eq63, Then-left-eq63}
 use Rattle.pair.proofs.string.block.Goals as goal
 
 -- where 63 bits of the message are left, they and DIRECTION are the block; where fewer are, the 1 and zeros follow
-full : (c : After-struct_known-then-left-eq63-1) → let given = c.args in
+full : (c : Then-left-eq63) → let given = c.args in
     block_of (padded given.inputs given.message.now given.bits) given.n ≡ c.rest-first.result + given.inputs.direction
 full c =
     let given = c.args in
@@ -21,7 +21,7 @@ full c =
     full_block given.inputs given.message.now given.bits given.n start (omega arith) (given.bits - start) (omega arith) (omega arith) (omega arith)
     ∙ ap (λ (x : ℕ). x + given.inputs.direction) (sym c.rest-first.ensures)
 
-ended : (c : After-struct_known-2-1) → let given = c.args in
+ended : (c : Else-left-eq63) → let given = c.args in
     block_of (padded given.inputs given.message.now given.bits) given.n
     ≡ c.rest-first.result + (2 * given.inputs.direction + 1) * 2 ^ (62 - (given.bits - 64 * (given.n - 1)))
 ended c =
@@ -58,17 +58,17 @@ returns-then-bits-start c =
 pub overflow_add-result-then-left-eq63 : goal.overflow_add-result-then-left-eq63
 overflow_add-result-then-left-eq63 c =
     let given = c.args in
-    omega (arith, full c, block_lt given.inputs given.message.now given.bits given.n)
+    omega (arith, full (goal.at.overflow_add-result-then-left-eq63 c).Then-left-eq63, block_lt given.inputs given.message.now given.bits given.n)
 
 pub returns-then-left-eq63 : goal.returns-then-left-eq63
-returns-then-left-eq63 c = sym (full c)
+returns-then-left-eq63 c = sym (full (goal.at.returns-then-left-eq63 c).Then-left-eq63)
 
 pub overflow_add-result-3 : goal.overflow_add-result-3
 overflow_add-result-3 c =
     let given = c.args in
-    omega (arith, ended c, block_lt given.inputs given.message.now given.bits given.n)
+    omega (arith, ended (goal.at.overflow_add-result-3 c).Else-left-eq63, block_lt given.inputs given.message.now given.bits given.n)
 
 pub returns : goal.returns
 returns c =
     let given = c.args in
-    omega (arith, ended c, block_lt given.inputs given.message.now given.bits given.n)
+    omega (arith, ended (goal.at.returns c).Else-left-eq63, block_lt given.inputs given.message.now given.bits given.n)

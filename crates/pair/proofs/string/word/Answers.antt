@@ -12,7 +12,7 @@ use Rattle.octets.specs.Bits.{bit_of, number, octet}
 use Rattle.octets.proofs.Number.{number_ext, number_add, number_lt}
 use Rattle.octets.proofs.Stored.{bit_of_lt, octet_bit_of}
 use Rattle.pair.proofs.string.word.Invariants.{bit_from}
-use Rattle.pair.proofs.string.word.Goals.{After-shared_slice_known-1, At-loop-j, In-loop-j}
+use Rattle.pair.proofs.string.word.Goals.{In-loop-j}
 use Rattle.pair.proofs.string.word.Goals as goal
 
 -- with the next octet the number has eight bits more
@@ -35,7 +35,7 @@ few c =
     (pow_mono {j = 56} (omega arith)))
 
 -- the octet that a turn reads is one
-is_octet : (c : After-shared_slice_known-1) → get_or c.args.octets.now (c.args.at + c.loop-j.j) 0 < 2 ^ 8
+is_octet : (c : In-loop-j) → get_or c.args.octets.now (c.args.at + c.loop-j.j) 0 < 2 ^ 8
 is_octet c = omega (arith, c.type_inv.octets (c.args.at + c.loop-j.j))
 
 pub loop-j-init : goal.loop-j-init
@@ -46,7 +46,7 @@ pub overflow_mul-whole : goal.overflow_mul-whole
 overflow_mul-whole c = omega (arith, few c)
 
 pub overflow_add-whole-in-loop-j : goal.overflow_add-whole-in-loop-j
-overflow_add-whole-in-loop-j c = omega (arith, few (goal.at.overflow_add-whole-in-loop-j c).In-loop-j, is_octet c)
+overflow_add-whole-in-loop-j c = omega (arith, few (goal.at.overflow_add-whole-in-loop-j c).In-loop-j, is_octet (goal.at.overflow_add-whole-in-loop-j c).In-loop-j)
 
 pub loop-j-preserved : goal.loop-j-preserved
 loop-j-preserved c =
@@ -55,5 +55,5 @@ loop-j-preserved c =
     let j : ℕ = c.loop-j.j in
     record {
       within = omega arith;
-      whole_is = ap (λ (x : ℕ). x * 256 + get_or octets (at + j) 0) c.loop-j.invariant.whole_is ∙ octet_more octets at j (is_octet c);
+      whole_is = ap (λ (x : ℕ). x * 256 + get_or octets (at + j) 0) c.loop-j.invariant.whole_is ∙ octet_more octets at j (is_octet (goal.at.loop-j-preserved c).In-loop-j);
     }
