@@ -1,7 +1,7 @@
 #!/usr/bin/env python3
 """Brings the repository's own definitions and lemmas to the spelling of today's Rattle: words in snake case, a dash only between a word of
-the library and the name that it is about. Run once, at the top, right after /opt/rattle/port/port.py; docs/PORT.md says of which commit. With --table it prints the
-renaming and writes nothing. Functions of src/, types, modules and strings keep their names."""
+the library and the name that it is about. Run once, at the top, right after /opt/rattle/port/port.py; docs/PORT.md says of which commit. With
+--table it prints the renaming and writes nothing. Functions of src/, types, modules and strings keep their names."""
 import collections
 import glob
 import re
@@ -10,8 +10,7 @@ import sys
 TOKEN = re.compile(r"[^\s(){}.;,@\"«»:`#|/\[\]]+(?:-[^\s(){}.;,@\"«»:`#|/\[\]]+)*")
 HEAD = re.compile(r"^((?:(?:pub|abbrev|unfoldable|data|record|ruleset) +)*)([^\s(){}.;,@\":]+)\s*(.*)$")
 FIELD = re.compile(r"^  +((?:(?:pub|abbrev|unfoldable) +)*)([^\s(){}.;,@\":]+) : ")
-# words of the library that a lemma may join to a name by a dash
-# names that would fall together with another in the files that name them
+# names that would fall together with another in the files that name them, and variables of statements, of which some fell under a name of another file
 HERE = {
     "crates/aes/proofs/Expansion.antt": {"next_word": "next_word_lem"},
     "crates/challenge/proofs/ByForm.antt": {"given_by": "given_by_lem"},
@@ -19,17 +18,17 @@ HERE = {
     "crates/challenge/proofs/Laws.antt": {"too_long": "too_long_lem"},
     "crates/keystreams/proofs/Laws.antt": {"is_key": "key_is"},
     "crates/promises/proofs/HostExamples.antt": {"seal-call": "sealing_call"},
-    # variables of statements, of which some fell under a name of another file
+    "crates/promises/proofs/NoInputTwice.antt": {"link-of": "link_at"},
+    "crates/promises/proofs/SealingAgain.antt": {"seal-call": "sealing_call"},
     "crates/promises/specs/Challenge.antt": {"output-after": "output_after"},
     "crates/promises/specs/NoInputTwice.antt": {"prepared-key": "prepared_key"},
     "crates/promises/specs/WhereItEnds.antt": {
         name: name.lower().replace("-", "_")
         for name in ("one-payload one-before one-size one-after other-before other-size other_After other-later other-iov prepared-key".split())
     },
-    "crates/promises/proofs/NoInputTwice.antt": {"link-of": "link_at"},
-    "crates/promises/proofs/SealingAgain.antt": {"seal-call": "sealing_call"},
     "crates/stream/proofs/Answers.antt": {"too_long": "too_long_lem"},
 }
+# words of the library that a lemma may join to a name by a dash
 LIBRARY = set("length get_or take drop set replicate map append cond bit_xor bit_and bit_or".split())
 
 
