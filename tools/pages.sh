@@ -19,7 +19,7 @@ declares() {
     name=$(printf '%s' "$2" | sed 's/[][\.*^$]/\\&/g')
     case $1 in
     *.antt) grep -qE "^ *((unfoldable|abbrev|pub|record|data) )*$name( |$)" "$1" ;;
-    *.rt) grep -qE "(fn|struct|enum|const|mod) $name([^A-Za-z0-9_]|$)" "$1" ;;
+    *.rt) grep -qE "(fn|struct|enum|trait|const|static|mod) $name([^A-Za-z0-9_]|$)" "$1" ;;
     *) grep -qF -- "$2" "$1" ;;
     esac
 }
@@ -49,7 +49,8 @@ done
 # are made of has none.
 library=$(for source in crates/*/src/*.rt; do
     crate=${source#crates/} crate=${crate%%/*}
-    case $crate in lines | script) ;; *) sed -nE "s/^ *pub fn ([a-z0-9_]+).*/$crate::\1/p" "$source" ;; esac
+    [ -f "crates/$crate/src/lib.rt" ] || continue
+    case $crate in refusals | lines | script) ;; *) sed -nE "s/^ *pub fn ([a-z0-9_]+).*/$crate::\1/p" "$source" ;; esac
 done | sort)
 line_of() {
     local name=${1##*::}

@@ -10,7 +10,7 @@ TYPES = set("u8 u16 u32 u64 usize i8 i16 i32 i64 isize bool".split())
 TOKEN = re.compile(
     r"(?P<text>b\"(?:[^\"\\]|\\.)*\")"
     r"|(?P<octet>b'(?:[^'\\]|\\.)')"
-    r"|(?P<refusal>refusals::(?P<which>[A-Z]+))"
+    r"|(?P<refusal>Refusal::(?P<which>[A-Z][a-z]+))"
     r"|(?P<number>\b(?:0x[0-9A-Fa-f_]+|[0-9][0-9_]*)(?P<suffix>u8|u16|u32|u64|usize)?\b)"
     r"|(?P<word>[A-Za-z_][A-Za-z0-9_]*)"
     r"|(?P<sign>\.\.=?|=>|->|::|<<|>>|<=|>=|==|!=|&&|\|\||\+=|-=|[-+*/%&|^<>!])"
@@ -94,7 +94,7 @@ def places_of(crate, file, refusal_names, results, chance):
                     if not declared:
                         uses.append((token, role, word))
             elif token.group("refusal"):
-                others = ["refusals::" + name for name in refusal_names if name != token.group("which")]
+                others = ["Refusal::" + name for name in refusal_names if name != token.group("which")]
                 found.append(Place(crate, file, token.start(), token.end(), "refusal", others, constant))
             elif token.group("number"):
                 found.append(Place(crate, file, token.start(), token.end(), "literal", other_numbers(token.group(), token.group("suffix") or ""), constant))

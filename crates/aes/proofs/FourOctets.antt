@@ -1,11 +1,15 @@
 -- Words of four octets: their octets, their xor, and a word turned by whole octets.
 -- Assumes nothing.
-use Prim.Native.Nat.{ℕ, zero, suc, ◌+◌, ◌*◌, ◌/◌, ◌%◌, ◌^◌, ◌<◌}
+use Prim.Native.Nat.{ℕ, zero, suc, ◌*◌, ◌/◌, ◌%◌, ◌^◌, ◌<◌}
 use native.Mathlib.Nat.{not-suc-le-zero, le_of_suc-le-suc, div-add-mod', div-one}
 use native.Mathlib.Omega.{arith}
-use mathlib.Core.Path.{◌≡◌, sym, ap, ap₂, subst, ◌∙◌}
-use lib.Bits.{bit_xor, xor_block}
+use mathlib.Core.Path.{◌≡◌, sym, ap, ap₂, ◌∙◌}
+use mathlib.Core.List.{[], ◌∷◌}
+use lib.Bits.{bit_or, bit_xor, xor_block}
+use lib.Dec.{lit<}
 use lib.Pow.{shr-shr}
+use Rattle.std.specs.Int.{w32, from_be_bytes, rotate_right}
+use Rattle.std.specs.Int.Bits.{or_shifted_r}
 use Rattle.octets.specs.Bits.{join}
 use Rattle.aes.specs.Aes.{word, octet_of}
 
@@ -18,36 +22,37 @@ each_of_4 P p q s t (suc (suc (suc zero))) below = t
 each_of_4 P p q s t (suc (suc (suc (suc r)))) below =
     absurd (not-suc-le-zero (le_of_suc-le-suc (le_of_suc-le-suc (le_of_suc-le-suc (le_of_suc-le-suc below)))))
 
--- what a number is below, its equal is below
-pub same_lt : {n k : ℕ} (m : ℕ) → m ≡ n → m < k → n < k
-same_lt {k = k} m same below = subst (λ (x : ℕ). x < k) same below
+-- the word of four octets, as `from_be_bytes` puts it
+pub of_octets : (a b c d : ℕ) → from_be_bytes w32 (a ∷ b ∷ c ∷ d ∷ []) ≡ word a b c d
+of_octets a b c d = omega arith
 
--- four octets of a word
+-- octet r of the word of four octets f 0, f 1, f 2 and f 3
+pub octet_word : (f : ℕ → ℕ) → ((k : ℕ) → k < 4 → f k < 256) → (r : ℕ) → r < 4 → octet_of (word (f 0) (f 1) (f 2) (f 3)) r ≡ f r
+octet_word f fits r below =
+    let f0 : f 0 < 256 = fits 0 (lit< tt) in
+    let f1 : f 1 < 256 = fits 1 (lit< tt) in
+    let f2 : f 2 < 256 = fits 2 (lit< tt) in
+    let f3 : f 3 < 256 = fits 3 (lit< tt) in
+    each_of_4 (λ (k : ℕ). octet_of (word (f 0) (f 1) (f 2) (f 3)) k ≡ f k) (omega arith) (omega arith) (omega arith) (omega arith) r below
+
+-- words of four octets
 module _ (a b c d : ℕ) (fits-a : a < 256) (fits-b : b < 256) (fits-c : c < 256) (fits-d : d < 256) where
-  pub octet_0 : octet_of (word a b c d) 0 ≡ a
-  octet_0 = omega arith
+  -- turned to the right by one octet, by two and by three
+  pub turned_1 : rotate_right w32 (word a b c d) 8 ≡ word d a b c
+  turned_1 =
+      ap (bit_or (word a b c d / 2 ^ 8)) {y = d * 2 ^ 24} (omega arith) ∙ or_shifted_r d 24 (word a b c d / 2 ^ 8) (omega arith) ∙ omega arith
 
-  pub octet_1 : octet_of (word a b c d) 1 ≡ b
-  octet_1 = omega arith
+  pub turned_2 : rotate_right w32 (word a b c d) 16 ≡ word c d a b
+  turned_2 =
+      ap (bit_or (word a b c d / 2 ^ 16)) {y = join 8 c d * 2 ^ 16} (omega arith)
+      ∙ or_shifted_r (join 8 c d) 16 (word a b c d / 2 ^ 16) (omega arith)
+      ∙ omega arith
 
-  pub octet_2 : octet_of (word a b c d) 2 ≡ c
-  octet_2 = omega arith
-
-  pub octet_3 : octet_of (word a b c d) 3 ≡ d
-  octet_3 = omega arith
-
-  pub word_lt : word a b c d < 2 ^ 32
-  word_lt = omega arith
-
-  -- turned by one octet, by two and by three
-  pub turned_1 : word a b c d % 0x100 * 0x1000000 + word a b c d / 0x100 ≡ word d a b c
-  turned_1 = omega arith
-
-  pub turned_2 : word a b c d % 0x10000 * 0x10000 + word a b c d / 0x10000 ≡ word c d a b
-  turned_2 = omega arith
-
-  pub turned_3 : word a b c d % 0x1000000 * 0x100 + word a b c d / 0x1000000 ≡ word b c d a
-  turned_3 = omega arith
+  pub turned_3 : rotate_right w32 (word a b c d) 24 ≡ word b c d a
+  turned_3 =
+      ap (bit_or (word a b c d / 2 ^ 24)) {y = join 8 (join 8 b c) d * 2 ^ 8} (omega arith)
+      ∙ or_shifted_r (join 8 (join 8 b c) d) 8 (word a b c d / 2 ^ 24) (omega arith)
+      ∙ omega arith
 
   -- the xor of two words is that of their octets
   pub word_xor : (e f g h : ℕ) → f < 256 → g < 256 → h < 256
@@ -56,13 +61,6 @@ module _ (a b c d : ℕ) (fits-a : a < 256) (fits-b : b < 256) (fits-c : c < 256
       xor_block 8 (join 8 (join 8 a b) c) (join 8 (join 8 e f) g) d h fits-d fits-h
       ∙ ap (λ (x : ℕ). join 8 x (bit_xor d h))
       (xor_block 8 (join 8 a b) (join 8 e f) c g fits-c fits-g ∙ ap (λ (x : ℕ). join 8 x (bit_xor c g)) (xor_block 8 a e b f fits-b fits-f))
-
--- the first octet of a word, and the last
-pub top_octet : (w : ℕ) → w < 2 ^ 32 → w / 0x1000000 ≡ octet_of w 0
-top_octet w fits = omega arith
-
-pub low_octet : (w : ℕ) → w % 0x100 ≡ octet_of w 3
-low_octet w = ap (λ (x : ℕ). x % 0x100) (sym (div-one w))
 
 -- the octets of a word make it again
 pub octets_word : (w : ℕ) → w < 2 ^ 32 → word (octet_of w 0) (octet_of w 1) (octet_of w 2) (octet_of w 3) ≡ w

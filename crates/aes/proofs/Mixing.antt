@@ -1,7 +1,8 @@
 -- The table of the rounds: what stands in it, and that four look-ups are a column after SubBytes, ShiftRows and MixColumns.
 -- Assumes nothing.
-use Prim.Native.Nat.{ℕ, ◌+◌, ◌*◌, ◌/◌, ◌%◌, ◌<◌}
+use Prim.Native.Nat.{ℕ, ◌/◌, ◌%◌, ◌<◌}
 use native.Mathlib.Nat.{mod-lt}
+use native.Mathlib.Omega.{arith}
 use mathlib.Core.Path.{◌≡◌, refl, sym, ap, ap₂, ◌∙◌}
 use mathlib.Core.Bool.{Bool}
 use mathlib.Core.List.{List}
@@ -9,6 +10,7 @@ use lib.Bits.{bit_xor, xor_lt}
 use lib.Dec.{T, eqb, eqb→eq, lit<}
 use lib.ListN.{length, get_or}
 use lib.Seq.{ext_get_or}
+use Rattle.std.specs.Int.{w32, rotate_right}
 use Rattle.refusals.proofs.Tests.{all, at_place}
 use Rattle.octets.proofs.Listed.{length-listed, get_or-listed}
 use Rattle.aes.specs.Field.{◌•◌}
@@ -17,7 +19,7 @@ use Rattle.aes.specs.Aes.{word, octet_of, coefficient, mix, mix_columns}
 use Rattle.aes.specs.Table.{entry_of, table}
 use Rattle.aes.specs.Columns.{column_of, gathered}
 use Rattle.aes.proofs.SBox.{entries, sbox_entry, sbox_lt, once, twice_lt, thrice_lt}
-use Rattle.aes.proofs.FourOctets.{octet_2, turned_1, turned_2, turned_3, word_xor}
+use Rattle.aes.proofs.FourOctets.{turned_1, turned_2, turned_3, word_xor}
 
 -- ---- what stands in the table
 
@@ -43,7 +45,7 @@ is_table words long held =
 -- the third octet of an entry is the S-box's
 pub entry_sbox : (x : ℕ) → x < 256 → entry_of x / 0x100 % 0x100 ≡ sbox x
 unfolding entry_of
-entry_sbox x below = octet_2 (2 • sbox x) (sbox x) (sbox x) (3 • sbox x) (twice_lt x below) (sbox_lt x below) (sbox_lt x below) (thrice_lt x below)
+entry_sbox x below = omega (arith, twice_lt x below, sbox_lt x below, thrice_lt x below)
 
 -- ---- four look-ups
 
@@ -68,15 +70,15 @@ module _ (w0 w1 w2 w3 : ℕ) where
   unfolding entry_of
   row_0 = refl
 
-  row_1 : entry_of (octet_of w1 1) % 0x100 * 0x1000000 + entry_of (octet_of w1 1) / 0x100 ≡ word (3 • b) (2 • b) b b
+  row_1 : rotate_right w32 (entry_of (octet_of w1 1)) 8 ≡ word (3 • b) (2 • b) b b
   unfolding entry_of
   row_1 = turned_1 (2 • b) b b (3 • b) (twice_lt _ (octet w1 1)) (sbox_lt _ (octet w1 1)) (sbox_lt _ (octet w1 1)) (thrice_lt _ (octet w1 1))
 
-  row_2 : entry_of (octet_of w2 2) % 0x10000 * 0x10000 + entry_of (octet_of w2 2) / 0x10000 ≡ word c (3 • c) (2 • c) c
+  row_2 : rotate_right w32 (entry_of (octet_of w2 2)) 16 ≡ word c (3 • c) (2 • c) c
   unfolding entry_of
   row_2 = turned_2 (2 • c) c c (3 • c) (twice_lt _ (octet w2 2)) (sbox_lt _ (octet w2 2)) (sbox_lt _ (octet w2 2)) (thrice_lt _ (octet w2 2))
 
-  row_3 : entry_of (octet_of w3 3) % 0x1000000 * 0x100 + entry_of (octet_of w3 3) / 0x1000000 ≡ word d d (3 • d) (2 • d)
+  row_3 : rotate_right w32 (entry_of (octet_of w3 3)) 24 ≡ word d d (3 • d) (2 • d)
   unfolding entry_of
   row_3 = turned_3 (2 • d) d d (3 • d) (twice_lt _ (octet w3 3)) (sbox_lt _ (octet w3 3)) (sbox_lt _ (octet w3 3)) (thrice_lt _ (octet w3 3))
 
@@ -112,9 +114,9 @@ module _ (w0 w1 w2 w3 : ℕ) where
   -- which is the product with the fixed polynomial
   pub mixed_column : bit_xor
       (bit_xor
-      (bit_xor (entry_of (octet_of w0 0)) (entry_of (octet_of w1 1) % 0x100 * 0x1000000 + entry_of (octet_of w1 1) / 0x100))
-      (entry_of (octet_of w2 2) % 0x10000 * 0x10000 + entry_of (octet_of w2 2) / 0x10000))
-      (entry_of (octet_of w3 3) % 0x1000000 * 0x100 + entry_of (octet_of w3 3) / 0x1000000)
+      (bit_xor (entry_of (octet_of w0 0)) (rotate_right w32 (entry_of (octet_of w1 1)) 8))
+      (rotate_right w32 (entry_of (octet_of w2 2)) 16))
+      (rotate_right w32 (entry_of (octet_of w3 3)) 24)
       ≡ column_of (mix_columns (gathered w0 w1 w2 w3)) 0
   unfolding column_of mix_columns coefficient mix gathered
   mixed_column =

@@ -4,19 +4,18 @@ use Prim.Native.Nat.{ℕ, zero, suc, ◌+◌, ◌-◌, ◌*◌, ◌/◌, ◌%◌
 use native.Mathlib.Nat.{mod-lt, not-suc-le-zero}
 use native.Mathlib.Omega.{arith}
 use mathlib.Core.Path.{◌≡◌, refl, sym, ap, ap₂, subst, ◌∙◌}
-use mathlib.Core.List.{List, [], ◌∷◌}
+use mathlib.Core.List.{List}
 use lib.Bits.{bit_xor, xor_lt}
 use lib.Dec.{lit<}
 use lib.ListN.{get_or}
 use Rattle.octets.specs.Octets.{AreOctets}
-use Rattle.octets.proofs.Listed.{listed_ext}
+use Rattle.octets.proofs.Listed.{listed_ext, get_or-listed}
 use Rattle.aes.specs.Field.{◌•◌}
 use Rattle.aes.specs.SBox.{sbox}
-use Rattle.aes.specs.Aes.{State, state_of, word, octet_of, sub_bytes, shift_rows, coefficient, mix, mix_columns, add_round_key, round, last_round, rounds, block_of, cipher}
-use Rattle.aes.specs.Columns.{column_of, columns_of, held}
-use Rattle.aes.specs.declared.rounds.Columns.{Columns}
+use Rattle.aes.specs.Aes.{State, state_of, word, octet_of, sub_bytes, shift_rows, coefficient, mix, mix_columns, add_round_key, round, last_round, rounds, block_of, cipher, key_word}
+use Rattle.aes.specs.Columns.{column_of, columns_of, held, gathered}
 use Rattle.aes.proofs.SBox.{sbox_lt, once, twice_lt, thrice_lt}
-use Rattle.aes.proofs.FourOctets.{each_of_4, octet_0, octet_1, octet_2, octet_3, xor_with}
+use Rattle.aes.proofs.FourOctets.{each_of_4, octet_word, xor_with}
 
 -- ---- states that agree
 
@@ -27,9 +26,8 @@ Alike s t = (r c : ℕ) → r < 4 → c < 4 → s r c ≡ t r c
 pub columns_alike : (s t : State) → Alike s t → columns_of s ≡ columns_of t
 unfolding columns_of column_of
 columns_alike s t same =
-    let column : (c : ℕ) → c < 4 → column_of s c ≡ column_of t c =
-    λ c below i. word (same 0 c (lit< tt) below i) (same 1 c (lit< tt) below i) (same 2 c (lit< tt) below i) (same 3 c (lit< tt) below i) in
-    λ i. record { c0 = column 0 (lit< tt) i; c1 = column 1 (lit< tt) i; c2 = column 2 (lit< tt) i; c3 = column 3 (lit< tt) i }
+    listed_ext (column_of s) (column_of t) 4
+    (λ c below i. word (same 0 c (lit< tt) below i) (same 1 c (lit< tt) below i) (same 2 c (lit< tt) below i) (same 3 c (lit< tt) below i))
 
 add_alike : (words : List ℕ) (n : ℕ) (s t : State) → Alike s t → Alike (add_round_key words n s) (add_round_key words n t)
 unfolding add_round_key
@@ -66,18 +64,11 @@ Octets s = (r c : ℕ) → r < 4 → c < 4 → s r c < 256
 pub held_columns : (s : State) → Octets s → Alike (held (columns_of s)) s
 unfolding held columns_of column_of
 held_columns s octets r c row column =
-    ap (λ (w : ℕ). octet_of w r)
-    (each_of_4 (λ (k : ℕ). get_or (column_of s 0 ∷ column_of s 1 ∷ column_of s 2 ∷ column_of s 3 ∷ []) k 0 ≡ column_of s k) refl refl refl refl c column)
-    ∙ each_of_4 (λ (k : ℕ). octet_of (column_of s c) k ≡ s k c)
-    (octet_0 (s 0 c) (s 1 c) (s 2 c) (s 3 c) (octets 0 c (lit< tt) column) (octets 1 c (lit< tt) column) (octets 2 c (lit< tt) column) (octets 3 c (lit< tt) column))
-    (octet_1 (s 0 c) (s 1 c) (s 2 c) (s 3 c) (octets 0 c (lit< tt) column) (octets 1 c (lit< tt) column) (octets 2 c (lit< tt) column) (octets 3 c (lit< tt) column))
-    (octet_2 (s 0 c) (s 1 c) (s 2 c) (s 3 c) (octets 0 c (lit< tt) column) (octets 1 c (lit< tt) column) (octets 2 c (lit< tt) column) (octets 3 c (lit< tt) column))
-    (octet_3 (s 0 c) (s 1 c) (s 2 c) (s 3 c) (octets 0 c (lit< tt) column) (octets 1 c (lit< tt) column) (octets 2 c (lit< tt) column) (octets 3 c (lit< tt) column))
-    r
-    row
+    ap (λ (w : ℕ). octet_of w r) (get_or-listed (column_of s) 4 c 0 column)
+    ∙ octet_word (λ (k : ℕ). s k c) (λ k below. octets k c below column) r row
 
 -- whatever columns hold is octets
-pub held_octets : (x : Columns) → Octets (held x)
+pub held_octets : (x : List ℕ) → Octets (held x)
 unfolding held
 held_octets x r c row column = mod-lt _ (lit< tt)
 
@@ -122,17 +113,25 @@ unfolding column_of add_round_key
 add_column words n s c octets fits =
     xor_with (s 0 c) (s 1 c) (s 2 c) (s 3 c) (get_or words (4 * n + c) 0) (octets 0 (lit< tt)) (octets 1 (lit< tt)) (octets 2 (lit< tt)) (octets 3 (lit< tt)) fits
 
-pub added_columns : (words : List ℕ) (n : ℕ) (s : State) → Octets s → ((c : ℕ) → c < 4 → get_or words (4 * n + c) 0 < 2 ^ 32) → record {
-  c0 = bit_xor (column_of s 0) (get_or words (4 * n + 0) 0);
-  c1 = bit_xor (column_of s 1) (get_or words (4 * n + 1) 0);
-  c2 = bit_xor (column_of s 2) (get_or words (4 * n + 2) 0);
-  c3 = bit_xor (column_of s 3) (get_or words (4 * n + 3) 0);
-} ≡ columns_of (add_round_key words n s)
-unfolding columns_of
-added_columns words n s octets fits =
-    let column : (c : ℕ) → c < 4 → bit_xor (column_of s c) (get_or words (4 * n + c) 0) ≡ column_of (add_round_key words n s) c =
-    λ c below. add_column words n s c (λ r row. octets r c row below) (fits c below) in
-    λ i. record { c0 = column 0 (lit< tt) i; c1 = column 1 (lit< tt) i; c2 = column 2 (lit< tt) i; c3 = column 3 (lit< tt) i }
+-- ---- what the code reads for column c
+
+pub block_column : (block : List ℕ) (c : ℕ) → c < 4 → key_word block c ≡ column_of (state_of block) c
+unfolding key_word column_of state_of
+block_column block c below = each_of_4 (λ (k : ℕ). key_word block k ≡ column_of (state_of block) k) refl refl refl refl c below
+
+-- row k of column c comes from the column k places to the right
+module _ (x : List ℕ) where
+  abbrev shifted : ℕ → State
+  shifted c = gathered (get_or x c 0) (get_or x ((c + 1) % 4) 0) (get_or x ((c + 2) % 4) 0) (get_or x ((c + 3) % 4) 0)
+
+  pub shifted_column : (c : ℕ) → c < 4 → column_of (shifted c) 0 ≡ column_of (shift_rows (sub_bytes (held x))) c
+  unfolding column_of shift_rows sub_bytes held gathered
+  shifted_column c below = each_of_4 (λ (k : ℕ). column_of (shifted k) 0 ≡ column_of (shift_rows (sub_bytes (held x))) k) refl refl refl refl c below
+
+  pub shifted_mixed_column : (c : ℕ) → c < 4 → column_of (mix_columns (shifted c)) 0 ≡ column_of (mix_columns (shift_rows (sub_bytes (held x)))) c
+  unfolding column_of mix_columns coefficient shift_rows sub_bytes held gathered
+  shifted_mixed_column c below =
+      each_of_4 (λ (k : ℕ). column_of (mix_columns (shifted k)) 0 ≡ column_of (mix_columns (shift_rows (sub_bytes (held x)))) k) refl refl refl refl c below
 
 -- ---- all rounds over a block of octets
 
@@ -143,19 +142,19 @@ module _ (words block : List ℕ) (octets : AreOctets block) where
   rounds_octets (suc n) = round_octets words (suc n) (rounds words n (state_of block)) (rounds_octets n)
 
   -- one round more, over the columns that hold the rounds before it
-  pub one_round_more : (n : ℕ) (x : Columns) → 0 < n → x ≡ columns_of (rounds words (n - 1) (state_of block))
+  pub one_round_more : (n : ℕ) (x : List ℕ) → 0 < n → x ≡ columns_of (rounds words (n - 1) (state_of block))
       → columns_of (round words n (held x)) ≡ columns_of (rounds words n (state_of block))
   unfolding rounds
   one_round_more zero x some is = absurd (not-suc-le-zero some)
   one_round_more (suc m) x some is =
       let before : State = rounds words m (state_of block) in
       let one_less : suc m - 1 ≡ m = omega arith in
-      ap (λ (y : Columns). columns_of (round words (suc m) (held y))) (is ∙ ap (λ (k : ℕ). columns_of (rounds words k (state_of block))) one_less)
+      ap (λ (y : List ℕ). columns_of (round words (suc m) (held y))) (is ∙ ap (λ (k : ℕ). columns_of (rounds words k (state_of block))) one_less)
       ∙ columns_alike (round words (suc m) (held (columns_of before))) (round words (suc m) before)
       (round_alike words (suc m) (held (columns_of before)) before (held_columns before (rounds_octets m)))
 
   -- and the block that the columns of the last round hold
-  pub block_encrypted : (x : Columns) → x ≡ columns_of (rounds words 9 (state_of block)) → block_of (held (columns_of (last_round words 10 (held x)))) ≡ cipher words block
+  pub block_encrypted : (x : List ℕ) → x ≡ columns_of (rounds words 9 (state_of block)) → block_of (held (columns_of (last_round words 10 (held x)))) ≡ cipher words block
   unfolding block_of cipher last_round
   block_encrypted x is =
       let before : State = rounds words 9 (state_of block) in
@@ -164,7 +163,7 @@ module _ (words block : List ℕ) (octets : AreOctets block) where
       λ r c row column.
       held_columns (last_round words 10 (held x)) (add_octets words 10 (shift_rows (sub_bytes (held x))) (shifted_octets (held x) (held_octets x))) r c row column
       ∙ last_round_alike words 10 (held x) before
-      (λ r c row column. ap (λ (y : Columns). held y r c) is ∙ held_columns before (rounds_octets 9) r c row column)
+      (λ r c row column. ap (λ (y : List ℕ). held y r c) is ∙ held_columns before (rounds_octets 9) r c row column)
       r
       c
       row

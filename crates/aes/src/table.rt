@@ -1,10 +1,10 @@
 // The table for the rounds: for each octet, what its S-box entry gives to a column when MixColumns meets it in row 0, times 02, 01, 01 and 03, the first
 // highest. In row k the four octets stand k places further on. The S-box entry itself is the third octet.
-ghost use Rattle.std.specs.Prelude.{◌≡◌, ◌<◌};
+ghost use Rattle.std.specs.Prelude.{◌≡◌};
 ghost use Rattle.aes.specs.SBox.{sbox as SBox·sbox};
-ghost use Rattle.aes.specs.Table.{table as Table·table};
+ghost use Rattle.aes.specs.Table.{entry_of};
 
-const TABLE: [u32; 256] = [
+static TABLE: [u32; 256] = [
     0xC66363A5, 0xF87C7C84, 0xEE777799, 0xF67B7B8D, 0xFFF2F20D, 0xD66B6BBD, 0xDE6F6FB1, 0x91C5C554,
     0x60303050, 0x02010103, 0xCE6767A9, 0x562B2B7D, 0xE7FEFE19, 0xB5D7D762, 0x4DABABE6, 0xEC76769A,
     0x8FCACA45, 0x1F82829D, 0x89C9C940, 0xFA7D7D87, 0xEFFAFA15, 0xB25959EB, 0x8E4747C9, 0xFBF0F00B,
@@ -39,17 +39,16 @@ const TABLE: [u32; 256] = [
     0x824141C3, 0x299999B0, 0x5A2D2D77, 0x1E0F0F11, 0x7BB0B0CB, 0xA85454FC, 0x6DBBBBD6, 0x2C16163A,
 ];
 
-// The table, copied once for all its entries: a look-up in a constant would copy the whole of it each time.
-pub(crate) fn table() -> [u32; 256]
-    ensures { result ≡ Table·table }
+// What an octet in row 0 gives to its column.
+pub(crate) fn entry(x: u8) -> u32
+    ensures { result ≡ entry_of x }
 {
-    TABLE
+    TABLE[x as usize]
 }
 
 // The S-box entry of an octet.
-pub(crate) fn sbox(table: &[u32; 256], x: u32) -> u32
-    requires { (table.now ≡ Table·table) × (x < 256) }
-    ensures { (result ≡ SBox·sbox x) × (result < 256) }
+pub(crate) fn sbox(x: u8) -> u8
+    ensures { result ≡ SBox·sbox x }
 {
-    table[x as usize] / 0x100 % 0x100
+    entry(x).to_be_bytes()[2]
 }

@@ -6,124 +6,137 @@
 
 mod calls;
 
-ghost use Rattle.std.specs.Prelude.{ℕ, ◌≡◌, ◌≢◌, ◌≤◌, ◌<◌, IfOk, length, slice_index};
+ghost use Rattle.std.specs.Prelude.{◌≤◌, IfOk, length};
 
-use std::io;
 use std::io::Read;
+use std::{array, io};
 
-// One call, and its sum.
-fn one(
-    what: u64,
-    key: &[u8],
-    number: u32,
-    m: usize,
-    message: &[u8],
-    output: &mut [u8],
-    before: u8,
-) -> u8
-    requires { m ≤ 65536 }
-{
-    if what == 0 {
-        return calls::gea4(key, number, m as u32, output, before);
-    }
-    if what == 1 {
-        return calls::gsm(key, number, before);
-    }
-    if what == 2 {
-        return calls::block(key, number, before);
-    }
-    if what == 5 {
-        return calls::f8(key, number, message, m as u32, output, before);
-    }
-    if what == 6 {
-        return calls::f9(key, number, message, m as u32, before);
-    }
-    if what == 7 {
-        return calls::milenage(key, number, before);
-    }
-    if 1520 < m {
-        return before;
-    }
-    calls::framed(what == 3, key, number, m, output, before)
+// The calls that can be timed.
+enum What {
+    Gea4,
+    Gsm,
+    Block,
+    Seal,
+    Open,
+    F8,
+    F9,
+    Milenage,
 }
 
-fn many(what: u64, m: usize, count: u32, output: &mut [u8]) -> u8
-    requires { m ≤ 65536 }
+impl From<u64> for What {
+    // What a number stands for: one that stands for nothing else is GEA4.
+    fn from(number: u64) -> What {
+        match number {
+            1 => What::Gsm,
+            2 => What::Block,
+            3 => What::Seal,
+            4 => What::Open,
+            5 => What::F8,
+            6 => What::F9,
+            7 => What::Milenage,
+            _ => What::Gea4,
+        }
+    }
+}
+
+// Makes a call with each number below `count`, and answers the exclusive or of all sums. A refused call hands out nothing.
+fn many<E: Drop, F: FnMut(u32) -> Result<u8, E>>(count: u32, mut call: F) -> u8
+    requires { F.IsAlwaysCallable call }
 {
-    let key = [0u8, 1, 2, 3, 4, 5, 6, 7, 8, 9, 10, 11, 12, 13, 14, 15];
-    let message = calls::message();
     let mut sum = 0;
-    let mut number = 0;
-    while number < count {
-        sum = one(what, &key, number, m, &message, output, sum);
-        number += 1;
+    for number in 0..count {
+        sum ^= call(number).unwrap_or(0);
     }
     sum
 }
 
-fn told(rt: HostRuntime, sum: u8) -> io::Result<()> {
-    let octets = [sum];
-    let mut text = [0u8; 2];
-    lines::hex_of_octets(&octets, &mut text);
-    rt.write_all(&text)?;
-    rt.write_all(b"\n")
-}
-
-// The place of the first such octet of a text, or the text's length where there is none.
-fn find(text: &[u8], octet: u8) -> usize
-    ensures within { result ≤ length text.now }
-    ensures before { (k : ℕ) → k < result → slice_index text.now k ≢ octet }
-    ensures found { result < length text.now → slice_index text.now result ≡ octet }
-{
-    for (i, other) in text.iter().enumerate() {
-        if *other == octet {
-            return i;
-        }
-    }
-    text.len()
-}
-
-// A number up to `most`, at the start of a text, before an octet; 0 where there is none.
-fn number_before(text: &[u8], octet: u8, most: u64) -> u64
-    ensures { result ≤ most }
-{
-    let end = find(text, octet);
-    let read = lines::decimal(&text[..end]);
-    if most < read.value {
-        return 0;
-    }
-    read.value
-}
-
-// What stands after the first octet of a kind.
-fn after(text: &[u8], octet: u8) -> &[u8] {
-    let end = find(text, octet);
-    if end < text.len() {
-        return &text[end + 1..];
-    }
-    text
+// The longest message of f8 and f9: octet i is i, modulo 256.
+fn message() -> [u8; 2500] {
+    array::from_fn(|i| (i % 256) as u8)
 }
 
 // Room for the longest output, and the six octets more of a frame.
-fn space() -> [u8; 65542]
-    ensures { 65542 ≡ length result }
+const ROOM: usize = 65542;
+
+// Makes COUNT calls of a kind.
+fn timed(what: What, m: u32, count: u32) -> u8
+    requires { m ≤ 65536 }
 {
-    [0; 65542]
+    let mut room = [0; ROOM];
+    let output = &mut room[..m as usize + 6];
+    match what {
+        What::Gea4 => many(count, |number| calls::gea4(number, m, output)),
+        What::Gsm => many(count, calls::gsm),
+        What::Block => many(count, calls::block),
+        What::Milenage => many(count, calls::milenage),
+        What::F8 => f8(m, count, output),
+        What::F9 => f9(m, count),
+        What::Seal => seal(m, count, output),
+        What::Open => open(m, count, output),
+    }
+}
+
+fn f8(bits: u32, count: u32, output: &mut [u8]) -> u8 {
+    let message = message();
+    match output.get_mut(..octets::size(bits)) {
+        Some(output) => many(count, |number| calls::f8(number, &message, bits, output)),
+        None => 0,
+    }
+}
+
+fn f9(bits: u32, count: u32) -> u8 {
+    let message = message();
+    many(count, |number| calls::f9(number, &message, bits))
+}
+
+// Frames with a payload of `m` zeros.
+fn seal(m: u32, count: u32, output: &mut [u8]) -> u8 {
+    match [0; 1520].get(..m as usize) {
+        Some(payload) => many(count, |number| calls::seal(number, payload, output)),
+        None => 0,
+    }
+}
+
+// Frames with a payload of `m` octets.
+fn open(m: u32, count: u32, output: &mut [u8]) -> u8 {
+    match [0; 1526].get_mut(..m as usize + 6) {
+        Some(frame) => many(count, |_| calls::open(frame, output)),
+        None => 0,
+    }
+}
+
+// A decimal number up to `most`. What the program makes of any input stays: a text that is no such number counts as 0.
+fn number(text: &[u8], most: u64) -> u64
+    ensures { result ≤ most }
+{
+    match lines::decimal(text) {
+        Ok(value) if value <= most => value,
+        _ => 0,
+    }
+}
+
+// What stands before the first such octet of a text, and what stands after it. Where there is none, each is the text: what the program makes of any input
+// stays.
+fn parts(text: &[u8], octet: u8) -> (&[u8], &[u8]) {
+    match text.iter().position(|other| *other == octet) {
+        Some(place) => (&text[..place], &text[place + 1..]),
+        None => (text, text),
+    }
 }
 
 // A line WHAT M COUNT.
 fn answer(rt: HostRuntime, line: &[u8]) -> io::Result<()> {
-    let what = number_before(line, b' ', 7);
-    let rest = after(line, b' ');
-    let m = number_before(rest, b' ', 65536) as usize;
-    let count = number_before(after(rest, b' '), b'\n', 0xFFFF_FFFF) as u32;
-    let mut output = space();
-    let end = m + 6;
-    let sum = many(what, m, count, &mut output[..end]);
-    told(rt, sum)
+    let (what, rest) = parts(line, b' ');
+    let (m, rest) = parts(rest, b' ');
+    let (count, _) = parts(rest, b'\n');
+    let what = What::from(number(what, 7));
+    let m = number(m, 65536) as u32;
+    let count = number(count, 0xFFFF_FFFF) as u32;
+    println!(rt; "{:02X}", timed(what, m, count))
 }
 
-// Reads until the line is full or the input ends, and answers how many octets were read.
+// Reads until the line is full or the input ends, and answers how many octets were read. How many a read brings is the input's to say, so no `for` counts
+// them.
 fn read_full(rt: HostRuntime, line: &mut [u8]) -> io::Result<usize>
     ensures { IfOk result (λ count. count ≤ length line.new) }
 {
@@ -139,7 +152,7 @@ fn read_full(rt: HostRuntime, line: &mut [u8]) -> io::Result<usize>
 }
 
 fn main(rt: HostRuntime) -> io::Result<()> {
-    let mut line = [0u8; 64];
+    let mut line = [0; 64];
     let got = read_full(rt, &mut line)?;
     answer(rt, &line[..got])
 }

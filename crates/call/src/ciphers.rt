@@ -1,70 +1,70 @@
 // The calls of the ciphers and the keystreams, whose first field is a key.
-use crate::fields::Given;
-use crate::{fields, tell};
+use crate::fields::{Failure, Fields};
+use crate::lending::{lend, lend_two};
+use crate::tell::{Told, number_of};
 use kgcore::Inputs;
-use std::io;
+use refusals::Refusal;
 
-// kasumi KEY BLOCK, prepare_key KEY
-pub(crate) fn answer(rt: HostRuntime, which: u8, given: &Given) -> io::Result<()> {
-    let key = fields::octets(given, 1);
-    match which {
-        b'0' => {
-            let ciphered = kasumi::kasumi(key, fields::number(given, 2));
-            tell::refusal_and_word(rt, ciphered.refusal, ciphered.block, 8)
-        }
-        _ => {
-            let prepared = keystreams::prepare_key(key);
-            let yielded = prepared.key;
-            tell::part(rt, prepared.refusal, &yielded)
-        }
-    }
+// kasumi KEY BLOCK
+pub(crate) fn kasumi(rt: HostRuntime, fields: &mut Fields<'_>) -> Result<(), Failure> {
+    let key = fields.octets()?;
+    let block = fields.number()?;
+    fields.end()?;
+    let ciphered = kasumi::kasumi(key, block);
+    println!(rt; "{} {:016X}", number_of(&ciphered), ciphered.unwrap_or(0))?;
+    Ok(())
+}
+
+// prepare_key KEY
+pub(crate) fn prepare_key(rt: HostRuntime, fields: &mut Fields<'_>) -> Result<(), Failure> {
+    let key = fields.octets()?;
+    fields.end()?;
+    let prepared = keystreams::prepare_key(key);
+    let yielded = prepared.unwrap_or([0; 16]);
+    println!(rt; "{} {}", number_of(&prepared), Told(yielded.as_slice()))?;
+    Ok(())
 }
 
 // gsm KEY COUNT ROOM1 ROOM2, and ecsd
-pub(crate) fn two_blocks(
+pub(crate) fn two_blocks<F: FnOnce(&[u8], u32, &mut [u8], &mut [u8]) -> Result<(), Refusal>>(
     rt: HostRuntime,
-    which: u8,
-    given: &Given,
-    block2: &mut [u8],
-) -> io::Result<()> {
-    let key = fields::octets(given, 1);
-    let mut output = fields::blank();
-    let size = fields::within(fields::size(given, 3), &output);
-    let block1 = &mut output[..size];
-    let refusal = put_blocks(which, key, fields::number32(given, 2), block1, block2);
-    tell::part(rt, refusal, block1)?;
-    tell::buffer(rt, block2)
+    fields: &mut Fields<'_>,
+    call: F,
+) -> Result<(), Failure>
+    requires { F.IsAlwaysCallable call }
+{
+    let key = fields.octets()?;
+    let count = fields.number()?;
+    lend_two(
+        rt,
+        fields,
+        |block1, block2| call(key, count, block1, block2),
+    )
 }
 
-fn put_blocks(which: u8, key: &[u8], count: u32, block1: &mut [u8], block2: &mut [u8]) -> u8 {
-    match which {
-        b'0' => keystreams::gsm(key, count, block1, block2),
-        _ => keystreams::ecsd(key, count, block1, block2),
-    }
+// kgcore KEY CA CB CC CD CE CL ROOM
+pub(crate) fn kgcore(rt: HostRuntime, fields: &mut Fields<'_>) -> Result<(), Failure> {
+    let key = fields.octets()?;
+    let inputs = Inputs {
+        ca: fields.number()?,
+        cb: fields.number()?,
+        cc: fields.number()?,
+        cd: fields.number()?,
+        ce: fields.number()?,
+    };
+    let cl = fields.number()?;
+    lend(rt, fields, |output| kgcore::kgcore(inputs, key, cl, output))
 }
 
-// kgcore KEY CA CB CC CD CE CL ROOM, gea4 KEY INPUT DIRECTION M ROOM
-pub(crate) fn put(which: u8, given: &Given, output: &mut [u8]) -> u8 {
-    let key = fields::octets(given, 1);
-    match which {
-        b'0' => kgcore::kgcore(inputs(given), key, fields::number32(given, 7), output),
-        _ => keystreams::gea4(
-            key,
-            fields::number32(given, 2),
-            fields::number8(given, 3),
-            fields::number32(given, 4),
-            output,
-        ),
-    }
-}
-
-// CA CB CC CD CE
-fn inputs(given: &Given) -> Inputs {
-    Inputs {
-        ca: fields::number8(given, 2),
-        cb: fields::number8(given, 3),
-        cc: fields::number32(given, 4),
-        cd: fields::number8(given, 5),
-        ce: fields::number16(given, 6),
-    }
+// gea4 KEY INPUT DIRECTION M ROOM
+pub(crate) fn gea4(rt: HostRuntime, fields: &mut Fields<'_>) -> Result<(), Failure> {
+    let key = fields.octets()?;
+    let input = fields.number()?;
+    let direction = fields.number()?;
+    let m = fields.number()?;
+    lend(
+        rt,
+        fields,
+        |output| keystreams::gea4(key, input, direction, m, output),
+    )
 }

@@ -1,47 +1,50 @@
-// The calls of the link's two ends.
-use crate::fields::Given;
-use crate::{fields, states, tell};
-use std::io;
+// The calls of the link's two ends. Where there is no number and no length, docs/CALL-LINES.md has 0 there.
+use crate::fields::{Failure, Fields};
+use crate::lending::{last_room, with_output};
+use crate::states::State;
+use crate::tell::{Told, number_of};
+use receiver::Receiver;
+use sender::Sender;
 
-// open_sender KEY IOV SAPI DIRECTION, and open_receiver
-pub(crate) fn answer(rt: HostRuntime, which: u8, given: &Given) -> io::Result<()> {
-    let key = fields::octets(given, 1);
-    let iov = fields::number32(given, 2);
-    let sapi = fields::number8(given, 3);
-    let direction = fields::number8(given, 4);
-    match which {
-        b'0' => states::tell_opened_sender(rt, sender::open_sender(key, iov, sapi, direction)),
-        _ => states::tell_opened_receiver(rt, receiver::open_receiver(key, iov, sapi, direction)),
-    }
-}
-
-// reserve SENDER RESERVATION, sender_can_arise SENDER, receiver_can_arise RECEIVER
-pub(crate) fn ask(rt: HostRuntime, which: u8, given: &Given) -> io::Result<()> {
-    match which {
-        b'0' => {
-            let told = sender::reserve(states::sender(given), fields::number32(given, 7));
-            tell::refusal(rt, told.refusal)?;
-            states::tell_sender(rt, told.sender)
-        }
-        b'1' => tell::number(rt, sender::can_arise(states::sender(given)) as u64),
-        _ => tell::number(rt, receiver::can_arise(states::receiver(given)) as u64),
-    }
+// reserve SENDER RESERVATION
+pub(crate) fn reserve(rt: HostRuntime, fields: &mut Fields<'_>) -> Result<(), Failure> {
+    let mut sender = Sender::read(fields)?;
+    let reserved = fields.number()?;
+    fields.end()?;
+    let told = sender::reserve(&mut sender, reserved);
+    println!(rt; "{} {}", number_of(&told), Told(sender))?;
+    Ok(())
 }
 
 // seal SENDER PAYLOAD ROOM
-pub(crate) fn seal(rt: HostRuntime, given: &Given, output: &mut [u8]) -> io::Result<()> {
-    let sender = states::sender(given);
-    let sealed = sender::seal(sender, fields::octets(given, 7), output);
-    tell::outcome(rt, sealed.refusal, sealed.number, sealed.size)?;
-    states::tell_sender(rt, sealed.sender)?;
-    tell::buffer(rt, output)
+pub(crate) fn seal(rt: HostRuntime, fields: &mut Fields<'_>) -> Result<(), Failure> {
+    let mut sender = Sender::read(fields)?;
+    let payload = fields.octets()?;
+    let room = last_room(fields)?;
+    with_output(room, |output| {
+        match sender::seal(&mut sender, payload, output) {
+            Ok(sealed) => print!(rt; "0 {} {}", sealed.number, sealed.size)?,
+            Err(refusal) => print!(rt; "{} 0 0", refusal.number())?,
+        }
+        println!(rt; " {} {}", Told(sender), Told(&*output))?;
+        Ok(())
+    })
 }
 
 // open RECEIVER FRAME ROOM
-pub(crate) fn open(rt: HostRuntime, given: &Given, output: &mut [u8]) -> io::Result<()> {
-    let receiver = states::receiver(given);
-    let opened = receiver::open(receiver, fields::octets(given, 7), output);
-    tell::outcome(rt, opened.refusal, opened.number, opened.size)?;
-    states::tell_receiver(rt, opened.receiver)?;
-    tell::buffer(rt, output)
+pub(crate) fn open(rt: HostRuntime, fields: &mut Fields<'_>) -> Result<(), Failure> {
+    let mut receiver = Receiver::read(fields)?;
+    let frame = fields.octets()?;
+    let room = last_room(fields)?;
+    with_output(room, |output| {
+        match receiver::open(&mut receiver, frame, output) {
+            Ok(opened) => print!(rt; "0 {} {}", opened.number, opened.size)?,
+            Err(refused) => {
+                let candidate = refused.candidate.unwrap_or(0);
+                print!(rt; "{} {candidate} 0", refused.refusal.number())?;
+            }
+        }
+        println!(rt; " {} {}", Told(receiver), Told(&*output))?;
+        Ok(())
+    })
 }

@@ -1,21 +1,27 @@
 // The calls of the stored forms of both ends.
-use crate::fields::Given;
-use crate::{fields, states};
-use std::io;
+use crate::fields::{Failure, Fields};
+use crate::lending::lend;
+use crate::states::State;
+use receiver::Receiver;
+use sender::Sender;
 
-// restore_sender OCTETS, and restore_receiver
-pub(crate) fn answer(rt: HostRuntime, which: u8, given: &Given) -> io::Result<()> {
-    let octets = fields::octets(given, 1);
-    match which {
-        b'0' => states::tell_opened_sender(rt, stored::restore_sender(octets)),
-        _ => states::tell_opened_receiver(rt, stored::restore_receiver(octets)),
-    }
+// store_sender SENDER RESERVATION ROOM
+pub(crate) fn store_sender(rt: HostRuntime, fields: &mut Fields<'_>) -> Result<(), Failure> {
+    let sender = Sender::read(fields)?;
+    let reserved = fields.number()?;
+    lend(
+        rt,
+        fields,
+        |output| stored::store_sender(sender, reserved, output),
+    )
 }
 
-// store_sender SENDER RESERVATION ROOM, store_receiver RECEIVER ROOM
-pub(crate) fn put(which: u8, given: &Given, output: &mut [u8]) -> u8 {
-    match which {
-        b'0' => stored::store_sender(states::sender(given), fields::number32(given, 7), output),
-        _ => stored::store_receiver(states::receiver(given), output),
-    }
+// store_receiver RECEIVER ROOM
+pub(crate) fn store_receiver(rt: HostRuntime, fields: &mut Fields<'_>) -> Result<(), Failure> {
+    let receiver = Receiver::read(fields)?;
+    lend(
+        rt,
+        fields,
+        |output| stored::store_receiver(receiver, output),
+    )
 }

@@ -10,6 +10,7 @@ mod ends;
 mod fields;
 mod forms;
 mod headers;
+mod lending;
 mod links;
 mod messages;
 mod numbers;
@@ -20,66 +21,69 @@ mod tell;
 use std::io;
 use std::io::Read;
 
-// The answer to a line of which `count` octets were heard; one that fills the buffer is too long, and a bad line.
-fn answer_heard(rt: HostRuntime, line: &[u8], count: usize) -> io::Result<()> {
-    if count < line.len() {
-        calls::answer(rt, &line[..count])
-    } else {
-        tell::bad(rt)?;
-        tell::line_end(rt)
-    }
+// The most octets of a line.
+const LONGEST: usize = 8192;
+
+// The octets of a line that were heard so far. Those of a line that is too long are counted, and not all kept. The memory is fixed, as everywhere in this
+// project, so the count stands beside it. The `Heard` of `lines` does not serve: that has 160 octets by its entries in the promises, and a `Program` puts
+// its answer into one output.
+#[derive(Drop)]
+struct Heard {
+    octets: [u8; LONGEST],
+    count: usize,
 }
 
-// Stands for a number of octets where no more is to be heard: the input ended.
-const STOP: usize = usize::MAX;
+impl Heard {
+    fn keep(&mut self, octet: u8) {
+        if let Some(place) = self.octets.get_mut(self.count) {
+            *place = octet;
+        }
+        self.count = self.count.saturating_add(1);
+    }
 
-// Hears a piece of the input: octets go to the line while there is room, and a line end has it answered. Answers how many octets of the last line were
-// heard.
-fn hear(rt: HostRuntime, piece: &[u8], line: &mut [u8], heard: usize) -> io::Result<usize> {
-    let mut count = heard;
-    for octet in piece {
-        if *octet == b'\n' {
-            answer_heard(rt, line, count)?;
-            count = 0;
-        } else if count < line.len() {
-            line[count] = *octet;
-            count += 1;
+    // Has the line answered, and begins a new one.
+    fn answer(&mut self, rt: HostRuntime) -> io::Result<()> {
+        let count = self.count;
+        self.count = 0;
+        match self.octets.get(..count) {
+            Some(line) => calls::answer(rt, line),
+            None => tell::bad(rt),
         }
     }
-    Ok(count)
-}
 
-// Reads once, and hears what came. Where the input ended, what was heard of a line that no line end ended is answered too.
-fn hear_some(rt: HostRuntime, line: &mut [u8], heard: usize) -> io::Result<usize> {
-    let mut piece = [0u8; 65536];
-    let n = rt.stdin().read(&mut piece)?;
-    if n == 0 {
-        hear_end(rt, line, heard)
-    } else {
-        hear(rt, &piece[..n], line, heard)
+    // Hears a piece of the input, in which a line end has a line answered.
+    fn hear(&mut self, rt: HostRuntime, piece: &[u8]) -> io::Result<()> {
+        for octet in piece {
+            match octet {
+                b'\n' => self.answer(rt)?,
+                _ => self.keep(*octet),
+            }
+        }
+        Ok(())
     }
-}
 
-fn hear_end(rt: HostRuntime, line: &[u8], heard: usize) -> io::Result<usize> {
-    if 0 < heard {
-        answer_heard(rt, line, heard)?;
+    // The input ends: a last line that no line end ended is answered too.
+    fn finish(&mut self, rt: HostRuntime) -> io::Result<()> {
+        if self.count == 0 {
+            return Ok(());
+        }
+        self.answer(rt)
     }
-    Ok(STOP)
 }
 
 // A proved loop has to end, and nothing says that the input does: the loop has a number of turns that no run uses up.
-fn hear_all(rt: HostRuntime, line: &mut [u8]) -> io::Result<()> {
-    let mut heard = 0;
+fn main(rt: HostRuntime) -> io::Result<()> {
+    let mut heard = Heard {
+        octets: [0; LONGEST],
+        count: 0,
+    };
+    let mut piece = [0; 65536];
     for _ in 0..u64::MAX {
-        heard = hear_some(rt, line, heard)?;
-        if heard == STOP {
+        let size = rt.stdin().read(&mut piece)?;
+        if size == 0 {
             break;
         }
+        heard.hear(rt, &piece[..size])?;
     }
-    Ok(())
-}
-
-fn main(rt: HostRuntime) -> io::Result<()> {
-    let mut line = [0u8; 8193];
-    hear_all(rt, &mut line)
+    heard.finish(rt)
 }

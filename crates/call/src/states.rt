@@ -1,80 +1,148 @@
-// The states, as fields of a line. Each is read by one function and told by one, so that a field more is one change.
-use crate::fields::Given;
-use crate::{fields, tell};
+// The states, as fields of a line, and the calls that open one, restore one, or ask whether one can arise.
+use crate::fields::{Failure, Fields, NoCall};
+use crate::tell::{Told, number_of};
 use link::Link;
 use numbering::Numbering;
-use receiver::{OpenedReceiver, Receiver};
-use sender::{OpenedSender, Sender};
-use std::io;
+use receiver::Receiver;
+use refusals::Refusal;
+use sender::Sender;
+use std::fmt::Display;
 
-// The 16 octets of a field.
-pub(crate) fn block(given: &Given, place: usize) -> [u8; 16] {
-    let mut block = [0u8; 16];
-    octets::cut(fields::octets(given, place), 0, 128, &mut block);
-    block
+// What document 01 hands out where no link was opened.
+const NO_LINK: Link = Link {
+    key: [0; 16],
+    iov: 0,
+    sapi: 0,
+    direction: 2,
+};
+
+pub(crate) trait State: Copy + Drop {
+    fn read(fields: &mut Fields<'_>) -> Result<Self, NoCall>;
+}
+
+// A state that is opened.
+pub(crate) trait Opened: State {
+    // What is handed out where no such state was opened.
+    const NONE: Self;
 }
 
 // KEY IOV SAPI DIRECTION
-pub(crate) fn link(given: &Given) -> Link {
-    Link {
-        key: block(given, 1),
-        iov: fields::number32(given, 2),
-        sapi: fields::number8(given, 3),
-        direction: fields::number8(given, 4),
+impl State for Link {
+    fn read(fields: &mut Fields<'_>) -> Result<Link, NoCall> {
+        Ok(Link {
+            key: fields.array()?,
+            iov: fields.number()?,
+            sapi: fields.number()?,
+            direction: fields.number()?,
+        })
     }
 }
 
-pub(crate) fn tell_link(rt: HostRuntime, link: Link) -> io::Result<()> {
-    let key = link.key;
-    tell::buffer(rt, &key)?;
-    tell::next_number(rt, link.iov as u64)?;
-    tell::next_number(rt, link.sapi as u64)?;
-    tell::next_number(rt, link.direction as u64)
-}
-
-pub(crate) fn tell_numbering(rt: HostRuntime, numbering: Numbering) -> io::Result<()> {
-    tell::next_number(rt, numbering.next as u64)?;
-    tell::next_number(rt, numbering.marks as u64)
+// NEXT MARKS
+impl State for Numbering {
+    fn read(fields: &mut Fields<'_>) -> Result<Numbering, NoCall> {
+        Ok(Numbering {
+            next: fields.number()?,
+            marks: fields.number()?,
+        })
+    }
 }
 
 // LINK NEXT RESERVED
-pub(crate) fn sender(given: &Given) -> Sender {
-    Sender {
-        link: link(given),
-        next: fields::number32(given, 5),
-        reserved: fields::number32(given, 6),
+impl State for Sender {
+    fn read(fields: &mut Fields<'_>) -> Result<Sender, NoCall> {
+        Ok(Sender {
+            link: Link::read(fields)?,
+            next: fields.number()?,
+            reserved: fields.number()?,
+        })
     }
-}
-
-pub(crate) fn tell_sender(rt: HostRuntime, sender: Sender) -> io::Result<()> {
-    tell_link(rt, sender.link)?;
-    tell::next_number(rt, sender.next as u64)?;
-    tell::next_number(rt, sender.reserved as u64)
-}
-
-// What opening a sender answers, and restoring one.
-pub(crate) fn tell_opened_sender(rt: HostRuntime, opened: OpenedSender) -> io::Result<()> {
-    tell::refusal(rt, opened.refusal)?;
-    tell_sender(rt, opened.sender)
 }
 
 // LINK NEXT MARKS
-pub(crate) fn receiver(given: &Given) -> Receiver {
-    Receiver {
-        link: link(given),
-        numbering: Numbering {
-            next: fields::number32(given, 5),
-            marks: fields::number32(given, 6),
-        },
+impl State for Receiver {
+    fn read(fields: &mut Fields<'_>) -> Result<Receiver, NoCall> {
+        Ok(Receiver {
+            link: Link::read(fields)?,
+            numbering: Numbering::read(fields)?,
+        })
     }
 }
 
-pub(crate) fn tell_receiver(rt: HostRuntime, receiver: Receiver) -> io::Result<()> {
-    tell_link(rt, receiver.link)?;
-    tell_numbering(rt, receiver.numbering)
+impl Opened for Link {
+    const NONE: Link = NO_LINK;
 }
 
-pub(crate) fn tell_opened_receiver(rt: HostRuntime, opened: OpenedReceiver) -> io::Result<()> {
-    tell::refusal(rt, opened.refusal)?;
-    tell_receiver(rt, opened.receiver)
+impl Opened for Sender {
+    const NONE: Sender = Sender {
+        link: NO_LINK,
+        next: 0,
+        reserved: 0,
+    };
+}
+
+impl Opened for Receiver {
+    const NONE: Receiver = Receiver {
+        link: NO_LINK,
+        numbering: Numbering { next: 0, marks: 0 },
+    };
+}
+
+fn tell_opened<T: Opened>(rt: HostRuntime, opened: Result<T, Refusal>) -> Result<(), Failure>
+where
+    Told<T>: Display,
+{
+    println!(rt;
+        "{} {}",
+        number_of(&opened),
+        Told(opened.unwrap_or(T::NONE))
+    )?;
+    Ok(())
+}
+
+// open_link KEY IOV SAPI DIRECTION, and open_sender and open_receiver
+pub(crate) fn open<T: Opened, F: FnOnce(&[u8], u32, u8, u8) -> Result<T, Refusal>>(
+    rt: HostRuntime,
+    fields: &mut Fields<'_>,
+    call: F,
+) -> Result<(), Failure>
+where
+    Told<T>: Display,
+    requires { F.IsAlwaysCallable call }
+{
+    let key = fields.octets()?;
+    let iov = fields.number()?;
+    let sapi = fields.number()?;
+    let direction = fields.number()?;
+    fields.end()?;
+    tell_opened(rt, call(key, iov, sapi, direction))
+}
+
+// restore_sender FORM, and restore_receiver
+pub(crate) fn restore<T: Opened, F: FnOnce(&[u8]) -> Result<T, Refusal>>(
+    rt: HostRuntime,
+    fields: &mut Fields<'_>,
+    call: F,
+) -> Result<(), Failure>
+where
+    Told<T>: Display,
+    requires { F.IsAlwaysCallable call }
+{
+    let form = fields.octets()?;
+    fields.end()?;
+    tell_opened(rt, call(form))
+}
+
+// link_can_arise LINK, and numbering_can_arise, sender_can_arise and receiver_can_arise
+pub(crate) fn can_arise<T: State, F: FnOnce(T) -> bool>(
+    rt: HostRuntime,
+    fields: &mut Fields<'_>,
+    call: F,
+) -> Result<(), Failure>
+    requires { F.IsAlwaysCallable call }
+{
+    let state = T::read(fields)?;
+    fields.end()?;
+    println!(rt; "{}", call(state) as u8)?;
+    Ok(())
 }

@@ -5,12 +5,13 @@ use native.Mathlib.Omega.{arith}
 use mathlib.Core.Path.{◌≡◌, refl, sym, ap, ◌∙◌}
 use mathlib.Core.Bool.{cond}
 use mathlib.Core.List.{List, [], ◌∷◌}
-use borrow.Author.Tests.{eq-eqb, ne_eqb, lt-ltb, le-ltb}
+use borrow.Author.Tests.{lt-ltb, le-ltb, ltb-false}
 use lib.Dec.{eqb, ltb, leb-suc-suc}
 use lib.ListN.{length, get_or, take, drop, length-drop}
 use lib.Seq.{drop-drop, drop-length}
+use Rattle.std.specs.Prelude.{Option, Some, None, unwrap_or}
+use Rattle.std.specs.List.{filter, position_or_len}
 use Rattle.refusals.proofs.Tests.{by-test}
-use Rattle.lines.proofs.Digits.{from_place}
 use Rattle.challenge.specs.Form.{with_octet, fields_of, first_size, field_of}
 
 -- ---- the first field
@@ -32,20 +33,26 @@ unfolding first_size
 size_within [] = zero-le
 size_within (octet ∷ rest) = by-test (eqb octet 32) _ (λ space. rw space zero-le) (λ other. rw other (suc-le-suc (size_within rest)))
 
--- ---- the size of a field, octet by octet
+-- ---- the size of a field, by the first space
 
-module _ (line : List ℕ) (i : ℕ) where
-  pub size_space : i < length line → get_or line i 0 ≡ 32 → first_size (drop i line) ≡ 0
-  unfolding first_size
-  size_space inside space = ap first_size (from_place line i inside) ∙ rw (eq-eqb (get_or line i 0) 32 space)
+size_found : (text : List ℕ) → first_size text ≡ position_or_len (λ octet. eqb octet 32) text
+unfolding first_size
+size_found [] = refl
+size_found (octet ∷ rest) = by-test (eqb octet 32) _ (λ space. rw space) (λ other. rw other (omega (arith, size_found rest)))
 
-  pub size_other : i < length line → (get_or line i 0 ≡ 32 → ⊥) → first_size (drop i line) ≡ suc (first_size (drop (i + 1) line))
-  unfolding first_size
-  size_other inside other = ap first_size (from_place line i inside) ∙ rw (ne_eqb (get_or line i 0) 32 other)
-
-  pub size_end : i ≡ length line → first_size (drop i line) ≡ 0
-  unfolding first_size
-  size_end end = ap (λ (n : ℕ). first_size (drop n line)) end ∙ ap first_size (drop-length line)
+pub size_position : (text : List ℕ) {found : Option ℕ} {size left : ℕ}
+    → found ≡ cond (ltb (position_or_len (λ octet. eqb octet 32) text) (length text)) (Some (position_or_len (λ octet. eqb octet 32) text)) None
+    → left ≡ length text → size ≡ unwrap_or found left → size ≡ first_size text
+size_position text {found} {size} {left} is rest given =
+    let place : ℕ = position_or_len (λ (octet : ℕ). eqb octet 32) text in
+    by-test (ltb place (length text)) _
+    (λ inside.
+    let there : found ≡ Some place = is ∙ rw inside in
+    given ∙ ap (λ (f : Option ℕ). unwrap_or f left) there ∙ sym (size_found text))
+    (λ none.
+    let nowhere : found ≡ None = is ∙ rw none in
+    let all : size ≡ left = given ∙ ap (λ (f : Option ℕ). unwrap_or f left) nowhere in
+    omega (arith, size_within text, size_found text, ltb-false place (length text) none))
 
 -- ---- field k, from a place on
 
@@ -104,21 +111,14 @@ length-field_of (octet ∷ rest) k =
     (λ space. rw space (length-after_space (fields_of rest) (length rest) (length-field_of rest) k))
     (λ other. rw other (length_with octet (fields_of rest) (length rest) (length-field_of rest) k))
 
--- ---- how many fields, octet by octet
+-- ---- how many fields: one more than spaces
 
-module _ (line : List ℕ) (i : ℕ) where
-  pub count_space : i < length line → get_or line i 0 ≡ 32 → length (fields_of (drop i line)) ≡ suc (length (fields_of (drop (i + 1) line)))
-  unfolding fields_of
-  count_space inside space = ap (λ (l : List ℕ). length (fields_of l)) (from_place line i inside) ∙ rw (eq-eqb (get_or line i 0) 32 space)
-
-  pub count_other : i < length line → (get_or line i 0 ≡ 32 → ⊥) → length (fields_of (drop i line)) ≡ length (fields_of (drop (i + 1) line))
-  unfolding fields_of with_octet
-  count_other inside other =
-      let rest : List ℕ = drop (i + 1) line in
-      ap (λ (l : List ℕ). length (fields_of l)) (from_place line i inside)
-      ∙ rw (ne_eqb (get_or line i 0) 32 other)
-      (ap (λ (l : List (List ℕ)). length (with_octet (get_or line i 0) l)) (first_field rest) ∙ sym (ap length (first_field rest)))
-
-  pub count_end : i ≡ length line → length (fields_of (drop i line)) ≡ 1
-  unfolding fields_of
-  count_end end = ap (λ (n : ℕ). length (fields_of (drop n line))) end ∙ ap (λ (l : List ℕ). length (fields_of l)) (drop-length line)
+pub fields_count : (line : List ℕ) → 1 + length (filter (λ octet. eqb octet 32) line) ≡ length (fields_of line)
+unfolding fields_of with_octet
+fields_count [] = refl
+fields_count (octet ∷ rest) =
+    by-test (eqb octet 32) _
+    (λ space. rw space (omega (arith, fields_count rest)))
+    (λ other.
+    rw other
+    (fields_count rest ∙ ap length (first_field rest) ∙ sym (ap (λ (l : List (List ℕ)). length (with_octet octet l)) (first_field rest))))

@@ -16,33 +16,27 @@ use Rattle.challenge.specs.declared.texts.Codes.{Codes}
 use Rattle.challenge.specs.Form.{fields_of, field_of, is_op, octets_of, Given, given_by}
 use Rattle.challenge.specs.Texts.{results_text, codes_text}
 use Rattle.challenge.specs.Answer.{opc_for, given_order, all_results, all_codes, values_text, given_text}
-use Rattle.challenge.specs.Calls.{results_of, codes_of}
+use Rattle.challenge.specs.Calls.{results_refusal, results_of, codes_refusal, codes_of, known}
 use Rattle.challenge.proofs.Laws.{length-all_results, text_refused, text_done, values_without, values_with}
-use Rattle.challenge.proofs.Refused.{known, strings_right, first_results, first_none, first_codes, res_is, ck_is, ik_is, ak_is, network_is, phone_is, first_opc, opc_is, order_made}
+use Rattle.challenge.proofs.Refused.{strings_right, first_results, first_none, first_codes, res_is, ck_is, ik_is, ak_is, network_is, phone_is, first_opc, opc_is, order_made}
 
 -- a refusal that is the first of the order is the answer
 refusal_told : (given : Given) {refusal : ℕ} → refusal ≡ first (given_order given) → (refusal ≡ 0 → ⊥) → decimal_text refusal ≡ given_text given
 refusal_told given is refused = ap decimal_text is ∙ sym (text_refused given (λ none. refused (is ∙ none)))
 
-module _ (numbered : Bool) (key opc rand sqn amf : List ℕ) {results : Results} (is : results ≡ results_of key opc rand) where
-  refusal_is : results.refusal ≡ (results_of key opc rand).refusal
-  refusal_is = ap (λ (r : Results). r.refusal) is
+module _ (numbered : Bool) (key opc rand sqn amf : List ℕ) where
+  pub results_refused : {refusal : ℕ} → refusal ≡ results_refusal key opc rand → (refusal ≡ 0 → ⊥) → decimal_text refusal ≡ given_text (known numbered key opc rand sqn amf)
+  results_refused is refused =
+      refusal_told (known numbered key opc rand sqn amf) (is ∙ first_results key opc rand numbered sqn amf (λ none. refused (is ∙ none))) refused
 
-  pub results_refused : (results.refusal ≡ 0 → ⊥) → decimal_text results.refusal ≡ given_text (known numbered key opc rand sqn amf)
-  results_refused refused =
-      refusal_told (known numbered key opc rand sqn amf) (refusal_is ∙ first_results key opc rand numbered sqn amf (λ none. refused (refusal_is ∙ none))) refused
-
-  module _ (done : results.refusal ≡ 0) where
-    right : (results_of key opc rand).refusal ≡ 0
-    right = sym refusal_is ∙ done
-
+  module _ {results : Results} (done : 0 ≡ results_refusal key opc rand) (is : results ≡ results_of key opc rand) where
     pub opc_size : length opc ≡ 16
-    opc_size = (three_sizes key opc rand (strings_right key opc rand right)).1.0
+    opc_size = (three_sizes key opc rand (strings_right key opc rand (sym done))).1.0
 
     results_are : results_text opc results.res results.ck results.ik results.ak ≡ all_results key opc rand
     unfolding all_results
     results_are =
-        let strings = strings_right key opc rand right in
+        let strings = strings_right key opc rand (sym done) in
         ap (λ (r : Results). results_text opc r.res r.ck r.ik r.ak) is
         ∙ (λ i. results_text opc (res_is key opc rand strings i) (ck_is key opc rand strings i) (ik_is key opc rand strings i) (ak_is key opc rand strings i))
 
@@ -54,30 +48,26 @@ module _ (numbered : Bool) (key opc rand sqn amf : List ℕ) {results : Results}
     unfolding opc_for
     known_without without =
         results_are
-        ∙ sym (text_done (known numbered key opc rand sqn amf) (first_none key opc rand numbered sqn amf (strings_right key opc rand right) without)
+        ∙ sym (text_done (known numbered key opc rand sqn amf) (first_none key opc rand numbered sqn amf (strings_right key opc rand (sym done)) without)
         ∙ values_without (known numbered key opc rand sqn amf) without)
 
-    module _ (with : numbered ≡ true) {codes : Codes} (codes-are : codes ≡ codes_of key opc rand sqn amf) where
-      code_refusal : codes.refusal ≡ (codes_of key opc rand sqn amf).refusal
-      code_refusal = ap (λ (r : Codes). r.refusal) codes-are
+    module _ (with : numbered ≡ true) where
+      code_first : {refusal : ℕ} → refusal ≡ codes_refusal key opc rand sqn amf → refusal ≡ first (given_order (known numbered key opc rand sqn amf))
+      code_first is = is ∙ first_codes key opc rand numbered sqn amf (strings_right key opc rand (sym done)) with
 
-      code_first : codes.refusal ≡ first (given_order (known numbered key opc rand sqn amf))
-      code_first = code_refusal ∙ first_codes key opc rand numbered sqn amf (strings_right key opc rand right) with
+      pub codes_refused : {refusal : ℕ} → refusal ≡ codes_refusal key opc rand sqn amf → (refusal ≡ 0 → ⊥) → decimal_text refusal ≡ given_text (known numbered key opc rand sqn amf)
+      codes_refused is refused = refusal_told (known numbered key opc rand sqn amf) (code_first is) refused
 
-      pub codes_refused : (codes.refusal ≡ 0 → ⊥) → decimal_text codes.refusal ≡ given_text (known numbered key opc rand sqn amf)
-      codes_refused refused = refusal_told (known numbered key opc rand sqn amf) code_first refused
-
-      pub known_with : codes.refusal ≡ 0
+      pub known_with : {codes : Codes} → 0 ≡ codes_refusal key opc rand sqn amf → codes ≡ codes_of key opc rand sqn amf
           → results_text opc results.res results.ck results.ik results.ak ++ codes_text codes.network codes.phone
           ≡ given_text (known numbered key opc rand sqn amf)
       unfolding opc_for all_codes
-      known_with taken =
-          let strings = strings_right key opc rand right in
-          let none = sym code_refusal ∙ taken in
+      known_with taken codes-are =
+          let strings = strings_right key opc rand (sym done) in
           ap₂ (λ (a b : List ℕ). a ++ b) results_are
           (ap (λ (r : Codes). codes_text r.network r.phone) codes-are
-          ∙ ap₂ codes_text (network_is key opc rand strings sqn amf none) (phone_is key opc rand strings sqn amf none))
-          ∙ sym (text_done (known numbered key opc rand sqn amf) (sym code_first ∙ taken) ∙ values_with (known numbered key opc rand sqn amf) with)
+          ∙ ap₂ codes_text (network_is key opc rand strings sqn amf (sym taken)) (phone_is key opc rand strings sqn amf (sym taken)))
+          ∙ sym (text_done (known numbered key opc rand sqn amf) (sym (code_first taken)) ∙ values_with (known numbered key opc rand sqn amf) with)
 
 -- where OP is given
 module _ (numbered : Bool) (key operator rand sqn amf : List ℕ) {refusal : ℕ} {after : List ℕ}

@@ -3,15 +3,18 @@
 use Prim.Native.Nat.{ℕ, ◌≤◌, ◌<◌}
 use native.Mathlib.Decide.{dec_le}
 use native.Mathlib.Omega.{arith}
-use mathlib.Core.Path.{◌≡◌, sym, subst, ◌∙◌}
+use mathlib.Core.Path.{◌≡◌, sym, ap, subst, ◌∙◌}
 use mathlib.Core.Bool.{true, false, ◌&&◌}
-use mathlib.Core.List.{List, [], ◌∷◌, ◌++◌, append-nil}
+use mathlib.Core.List.{List, [], ◌∷◌, ◌++◌, append_assoc, append-nil}
 use borrow.Author.Tests.{eq-eqb, ne_eqb, eqb-true, eqb-false, lt-leb}
 use lib.Dec.{T, eqb, lit≤}
-use lib.ListN.{length, length-append}
+use lib.ListN.{length, take, drop, length-append, take-append-drop}
+use lib.Seq.{length-take-le}
+use Rattle.std.proofs.lemmas.List.{drop-append-le}
+use Rattle.refusals.specs.Call.{front}
 use Rattle.refusals.specs.Refusal.{first}
 use Rattle.refusals.proofs.Tests.{by-test}
-use Rattle.lines.specs.Text.{ended, decimal_text}
+use Rattle.lines.specs.Text.{AtFront, ended, decimal_text}
 use Rattle.lines.specs.Hearing.{too_long}
 use Rattle.lines.proofs.Hearing.{LongAlike, line_alike}
 use Rattle.lines.proofs.InDecimal.{length-decimal_text}
@@ -30,6 +33,22 @@ pub length-all_results : (key opc rand : List ℕ) → length opc ≡ 16 → len
 unfolding all_results
 length-all_results key opc rand opc_size =
     length_results opc _ _ _ _ opc_size (length_f2 key opc rand) (length_f3 key opc rand) (length_f4 key opc rand) (length_f5 key opc rand)
+
+-- ---- where an answer is put
+
+-- what is put at the front of the first octets of an output is put at the front of the output
+pub at_front_first : {text before : List ℕ} {size : ℕ} {after : List ℕ} (n : ℕ) → n ≤ length before → length text ≤ n
+    → AtFront text (take n before) size after → AtFront text before size (after ++ drop n before)
+unfolding front
+at_front_first {text} {before} n room short put = record {
+  written_is = put.written_is;
+  output_is =
+      ap (λ (l : List ℕ). l ++ drop n before) put.output_is
+      ∙ append_assoc text (drop (length text) (take n before)) (drop n before)
+      ∙ ap (λ (l : List ℕ). text ++ l)
+      (sym (drop-append-le (length text) (take n before) (drop n before) (omega (arith, length-take-le n before room)))
+      ∙ ap (drop (length text)) (take-append-drop n before));
+}
 
 -- ---- the answer to what is given
 

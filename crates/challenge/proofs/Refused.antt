@@ -14,36 +14,31 @@ use Rattle.milenage.specs.Milenage.{opc_of, f1_output, f1_star_output, f2_output
 use Rattle.milenage.specs.Calls.{is_string, are_numbers, opc_order, code_order, result_order, opc_call}
 use Rattle.milenage.proofs.Laws.{opc_done, length_opc, length_f1, length_f1_star, length_f2, length_f3, length_f4, length_f5}
 use Rattle.milenage.proofs.Sizes.{two_sizes, is_string_lem}
-use Rattle.challenge.specs.Form.{Given}
 use Rattle.challenge.specs.Answer.{given_order}
-use Rattle.challenge.specs.Calls.{results_of, codes_of}
-
--- what is given where OPc is
-abbrev pub known : Bool → List ℕ → List ℕ → List ℕ → List ℕ → List ℕ → Given
-known numbered key opc rand sqn amf = record { made = false; numbered = numbered; key = key; operator = opc; rand = rand; sqn = sqn; amf = amf }
+use Rattle.challenge.specs.Calls.{results_refusal, results_of, codes_refusal, codes_of, known}
 
 -- ---- the refusals
 
 module _ (key opc rand : List ℕ) where
-  results_refused : (is_string key && is_string opc && is_string rand) ≡ false → (results_of key opc rand).refusal ≡ 1
-  unfolding results_of outcome first result_order
-  results_refused wrong = rw wrong
+  results_wrong : (is_string key && is_string opc && is_string rand) ≡ false → results_refusal key opc rand ≡ 1
+  unfolding results_refusal outcome first result_order
+  results_wrong wrong = rw wrong
 
-  results_taken : (is_string key && is_string opc && is_string rand) ≡ true → (results_of key opc rand).refusal ≡ 0
-  unfolding results_of outcome first result_order
+  results_taken : (is_string key && is_string opc && is_string rand) ≡ true → results_refusal key opc rand ≡ 0
+  unfolding results_refusal outcome first result_order
   results_taken right = rw right
 
-  pub strings_right : (results_of key opc rand).refusal ≡ 0 → (is_string key && is_string opc && is_string rand) ≡ true
-  strings_right done = by-test (is_string key && is_string opc && is_string rand) _ (λ right. right) (λ wrong. absurd (omega (arith, results_refused wrong)))
+  pub strings_right : results_refusal key opc rand ≡ 0 → (is_string key && is_string opc && is_string rand) ≡ true
+  strings_right done = by-test (is_string key && is_string opc && is_string rand) _ (λ right. right) (λ wrong. absurd (omega (arith, results_wrong wrong)))
 
   module _ (numbered : Bool) (sqn amf : List ℕ) where
     -- a refusal of the results is the first of the order
-    pub first_results : ((results_of key opc rand).refusal ≡ 0 → ⊥) → (results_of key opc rand).refusal ≡ first (given_order (known numbered key opc rand sqn amf))
+    pub first_results : (results_refusal key opc rand ≡ 0 → ⊥) → results_refusal key opc rand ≡ first (given_order (known numbered key opc rand sqn amf))
     unfolding first given_order
     first_results refused =
         by-test (is_string key && is_string opc && is_string rand) _
         (λ right. absurd (refused (results_taken right)))
-        (λ wrong. results_refused wrong ∙ rw wrong)
+        (λ wrong. results_wrong wrong ∙ rw wrong)
 
     -- past it the order has none where SQN and AMF are not given, and else the refusal of the codes
     pub first_none : (is_string key && is_string opc && is_string rand) ≡ true → numbered ≡ false → first (given_order (known numbered key opc rand sqn amf)) ≡ 0
@@ -51,8 +46,8 @@ module _ (key opc rand : List ℕ) where
     first_none right without = rw (right, without)
 
     pub first_codes : (is_string key && is_string opc && is_string rand) ≡ true → numbered ≡ true
-        → (codes_of key opc rand sqn amf).refusal ≡ first (given_order (known numbered key opc rand sqn amf))
-    unfolding codes_of outcome first code_order given_order
+        → codes_refusal key opc rand sqn amf ≡ first (given_order (known numbered key opc rand sqn amf))
+    unfolding codes_refusal outcome first code_order given_order
     first_codes right with = by-test (are_numbers sqn amf) _ (λ numbers. rw (right, with, numbers)) (λ other. rw (right, with, other))
 
 -- ---- the outputs
@@ -75,18 +70,18 @@ module _ (key opc rand : List ℕ) (right : (is_string key && is_string opc && i
   ak_is = rw right (front_whole (f5_output key opc rand) (replicate 6 0) (length_f5 key opc rand))
 
   module _ (sqn amf : List ℕ) where
-    codes_refused : are_numbers sqn amf ≡ false → (codes_of key opc rand sqn amf).refusal ≡ 5
-    unfolding codes_of outcome first code_order
-    codes_refused other = rw (right, other)
+    codes_wrong : are_numbers sqn amf ≡ false → codes_refusal key opc rand sqn amf ≡ 5
+    unfolding codes_refusal outcome first code_order
+    codes_wrong other = rw (right, other)
 
-    numbers_right : (codes_of key opc rand sqn amf).refusal ≡ 0 → are_numbers sqn amf ≡ true
-    numbers_right done = by-test (are_numbers sqn amf) _ (λ numbers. numbers) (λ other. absurd (omega (arith, codes_refused other)))
+    numbers_right : codes_refusal key opc rand sqn amf ≡ 0 → are_numbers sqn amf ≡ true
+    numbers_right done = by-test (are_numbers sqn amf) _ (λ numbers. numbers) (λ other. absurd (omega (arith, codes_wrong other)))
 
-    pub network_is : (codes_of key opc rand sqn amf).refusal ≡ 0 → (codes_of key opc rand sqn amf).network ≡ f1_output key opc rand sqn amf
+    pub network_is : codes_refusal key opc rand sqn amf ≡ 0 → (codes_of key opc rand sqn amf).network ≡ f1_output key opc rand sqn amf
     unfolding codes_of outcome first code_order
     network_is done = rw (right, numbers_right done) (front_whole (f1_output key opc rand sqn amf) (replicate 8 0) (length_f1 key opc rand sqn amf))
 
-    pub phone_is : (codes_of key opc rand sqn amf).refusal ≡ 0 → (codes_of key opc rand sqn amf).phone ≡ f1_star_output key opc rand sqn amf
+    pub phone_is : codes_refusal key opc rand sqn amf ≡ 0 → (codes_of key opc rand sqn amf).phone ≡ f1_star_output key opc rand sqn amf
     unfolding codes_of outcome first code_order
     phone_is done = rw (right, numbers_right done) (front_whole (f1_star_output key opc rand sqn amf) (replicate 8 0) (length_f1_star key opc rand sqn amf))
 

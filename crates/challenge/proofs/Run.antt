@@ -1,4 +1,4 @@
--- A run of the calls writes what `challenge` is to write: `start`, `hear` for each octet of the input, then `finish`.
+-- A run of the calls of the crate `lines` writes what `challenge` is to write: from silence on, `hear` for each octet of the input, then `finish`.
 -- Assumes nothing.
 use Prim.Native.Nat.{ℕ}
 use mathlib.Core.Path.{◌≡◌}
@@ -11,7 +11,7 @@ use Rattle.challenge.specs.Answer.{answer_text, largest_answer}
 use Rattle.challenge.specs.Challenge.{challenge_rules, challenge_output}
 use Rattle.challenge.proofs.Laws.{challenge_alike}
 
--- the whole run, from `start`, whose line is silence, writes what `challenge` is to write
+-- the whole run, from silence on, writes what `challenge` is to write
 pub run_writes_challenge : {heard : Heard} {input output : List ℕ} → heard ≡ silence → Run challenge_rules (standing heard) input output → output ≡ challenge_output input
 unfolding challenge_output
 run_writes_challenge = run_by_lines answer_text largest_answer challenge_alike

@@ -1,50 +1,34 @@
 -- The laws of the form of a line: the same texts, the octets of a value, and the tests of the form.
 -- Assumes nothing.
-use Prim.Native.Nat.{ℕ, suc, ◌+◌, ◌*◌, ◌%◌, ◌≤◌, ◌<◌}
+use Prim.Native.Nat.{ℕ, ◌*◌, ◌%◌, ◌≤◌}
 use native.Mathlib.Omega.{arith}
-use mathlib.Core.Path.{◌≡◌, refl, ap, ap₂, subst, ◌∙◌}
-use mathlib.Core.Bool.{true, false, ◌&&◌, and-eq-true_iff}
+use mathlib.Core.Path.{◌≡◌, refl, ap, subst, ◌∙◌}
+use mathlib.Core.Bool.{Bool, true, false, cond, ◌&&◌, and-eq-true_iff}
 use mathlib.Core.List.{List, [], ◌∷◌}
 use borrow.Author.Tests.{eq-eqb, ne_eqb, eqb-true, lt-ltb, le-leb, ltb-true, ltb-false}
 use lib.Dec.{eqb, ltb}
-use lib.ListN.{length, get_or, drop}
-use lib.Seq.{drop-length}
+use lib.Pointwise.{pointwise}
+use lib.ListN.{length, get_or}
+use Rattle.refusals.specs.Refusal.{first}
 use Rattle.refusals.proofs.Tests.{by-test}
 use Rattle.lines.specs.Form.{every}
-use Rattle.lines.specs.Text.{AtFront, hex_octets, is_hex, hex_order, octets_of_hex_call}
+use Rattle.lines.specs.Text.{AtFront, hex_octets, is_hex, hex_order, room_order, octets_of_hex_call}
 use Rattle.refusals.specs.Call.{Answered, front}
 use Rattle.refusals.proofs.Calls.{refused_keeps}
 use Rattle.lines.proofs.Callers.{put_done, put_refused, hex_fits}
-use Rattle.lines.proofs.Digits.{from_place}
 use Rattle.lines.proofs.Form.{every_fails}
-use Rattle.lines.proofs.Text.{length-hex_octets, hex_bad}
+use Rattle.lines.proofs.Text.{length-hex_octets, hex_bad, hex_good}
 use Rattle.challenge.specs.Form.{fields_of, field_of, same, is_word, is_value, octets_of, ends_right, form_tests, is_challenge}
 
 -- ---- the same texts
 
-pub same_lengths : (a b : List ℕ) → (length a ≡ length b → ⊥) → same a b ≡ false
+-- `==` on slices says whether they are
+pub equal : (a b : List ℕ) → pointwise eqb a b ≡ same a b
 unfolding same
-same_lengths [] [] apart = absurd (apart refl)
-same_lengths [] (y ∷ b) apart = refl
-same_lengths (x ∷ a) [] apart = refl
-same_lengths (x ∷ a) (y ∷ b) apart =
-    by-test (eqb x y) _ (λ equal. rw equal (same_lengths a b (λ e. apart (ap suc e)))) (λ other. rw other)
-
-module _ (a b : List ℕ) (i : ℕ) (in-a : i < length a) (in_b : i < length b) where
-  same_step : same (drop i a) (drop i b) ≡ (eqb (get_or a i 0) (get_or b i 0) && same (drop (i + 1) a) (drop (i + 1) b))
-  unfolding same
-  same_step = ap₂ same (from_place a i in-a) (from_place b i in_b)
-
-  pub same_passes : get_or a i 0 ≡ get_or b i 0 → same (drop i a) (drop i b) ≡ same (drop (i + 1) a) (drop (i + 1) b)
-  same_passes equal = same_step ∙ rw (eq-eqb (get_or a i 0) (get_or b i 0) equal)
-
-  pub same_fails : (get_or a i 0 ≡ get_or b i 0 → ⊥) → same (drop i a) (drop i b) ≡ false
-  same_fails other = same_step ∙ rw (ne_eqb (get_or a i 0) (get_or b i 0) other)
-
-pub same_end : (a b : List ℕ) (i : ℕ) → i ≡ length a → i ≡ length b → same (drop i a) (drop i b) ≡ true
-unfolding same
-same_end a b i end-a end-b =
-    ap₂ same (ap (λ (n : ℕ). drop n a) end-a ∙ drop-length a) (ap (λ (n : ℕ). drop n b) end-b ∙ drop-length b)
+equal [] [] = refl
+equal [] (y ∷ b) = refl
+equal (x ∷ a) [] = refl
+equal (x ∷ a) (y ∷ b) = ap (λ (rest : Bool). eqb x y && rest) (equal a b)
 
 -- ---- a value
 
@@ -80,6 +64,11 @@ module _ (field : List ℕ) where
       subst (λ (octets : List ℕ). AtFront octets before count after) (octets_none other)
       (record { written_is = put_refused (hex_order field before) (hex_octets field) before answered refused; output_is = refused_keeps (octets_of_hex_call field before) answered refused }))
 
+  -- what is not pairs of hex digits is no value
+  no_value : is_hex field ≡ false → is_value field ≡ false
+  unfolding is_value
+  no_value other = by-test (ltb 0 (length field)) _ (λ some. rw (some, other)) (λ none. rw none)
+
   -- a value is what writes some
   at_least_two : is_value field ≡ true → 2 ≤ length field
   unfolding is_value is_hex
@@ -94,6 +83,19 @@ module _ (field : List ℕ) where
       by-test (is_value field) _
       (λ some. rw some (lt-ltb 0 (length (hex_octets field)) (omega (arith, length-hex_octets field, at_least_two some))))
       (λ none. rw none)
+
+  -- where no octet has room, a value is refused for want of it, and nothing else is
+  pub value_alone : {refusal count : ℕ} {after : List ℕ} → Answered (octets_of_hex_call field []) refusal (count ∷ []) after → eqb refusal 4 ≡ is_value field
+  unfolding first room_order
+  value_alone {refusal} answered =
+      by-test (is_hex field) _
+      (λ hex.
+      let some : ltb 0 (length (hex_octets field)) ≡ is_value field = ap (λ (octets : List ℕ). ltb 0 (length octets)) (octets_hex hex) ∙ value_some in
+      let is : refusal ≡ cond (is_value field) 4 0 = answered.refusal_is ∙ hex_good field [] hex ∙ ap (λ (b : Bool). cond b 4 0) some in
+      rw is (by-test (is_value field) _ (λ value. rw value) (λ none. rw none)))
+      (λ other.
+      let is : refusal ≡ 2 = answered.refusal_is ∙ hex_bad field [] other in
+      rw (is, no_value other))
 
 -- ---- the form
 

@@ -1,7 +1,9 @@
 // The form of a line of `challenge`: its fields, the word and the values.
 ghost use Rattle.std.specs.Prelude.{◌≡◌, ◌+◌, ◌*◌, ◌≤◌, length, drop};
 ghost use Rattle.lines.specs.Text.{AtFront};
-ghost use Rattle.challenge.specs.Form.{fields_of, first_size, field_of, same as Form·same, is_op, is_word, is_value, octets_of, ends_right, is_challenge};
+ghost use Rattle.challenge.specs.Form.{fields_of, first_size, field_of, is_op, is_word, is_value, octets_of, ends_right, is_challenge};
+
+use refusals::Refusal;
 
 // What stands between two fields.
 const SPACE: u8 = b' ';
@@ -14,14 +16,8 @@ fn field_end(line: &[u8], from: usize) -> usize
     requires { from ≤ length line.now }
     ensures { result ≡ from + first_size (drop from line.now) }
 {
-    let mut end = from;
-    while end < line.len() {
-        if line[end] == SPACE {
-            return end;
-        }
-        end += 1;
-    }
-    end
+    let size = line[from..].iter().position(|octet| *octet == SPACE);
+    from + size.unwrap_or(line.len() - from)
 }
 
 // Where field k begins; the line's end where there is no such field.
@@ -29,14 +25,12 @@ fn field_place(line: &[u8], k: usize) -> usize
     ensures { (result ≤ length line.now) × (field_of k line.now ≡ field_of 0 (drop result line.now)) }
 {
     let mut from = 0;
-    let mut i = 0;
-    while i < k {
+    for _ in 0..k {
         let end = field_end(line, from);
         if end == line.len() {
             return end;
         }
         from = end + 1;
-        i += 1;
     }
     from
 }
@@ -54,39 +48,14 @@ fn field(line: &[u8], k: usize) -> &[u8]
 pub(crate) fn count_fields(line: &[u8]) -> usize
     ensures { result ≡ length (fields_of line.now) }
 {
-    let mut count = 1;
-    let mut i = 0;
-    while i < line.len() {
-        if line[i] == SPACE {
-            count += 1;
-        }
-        i += 1;
-    }
-    count
-}
-
-// Whether two texts are the same.
-fn same(text: &[u8], other: &[u8]) -> bool
-    ensures { result ≡ Form·same text.now other.now }
-{
-    if text.len() != other.len() {
-        return false;
-    }
-    let mut i = 0;
-    while i < text.len() {
-        if text[i] != other[i] {
-            return false;
-        }
-        i += 1;
-    }
-    true
+    1 + line.iter().filter(|octet| **octet == SPACE).count()
 }
 
 // Whether a line gives OP.
 pub(crate) fn gives_op(line: &[u8]) -> bool
     ensures { result ≡ is_op (field_of 1 line.now) }
 {
-    same(field(line, 1), b"OP")
+    field(line, 1) == b"OP".as_slice()
 }
 
 // Whether a line gives OP or OPc.
@@ -96,29 +65,29 @@ fn gives_word(line: &[u8]) -> bool
     if gives_op(line) {
         return true;
     }
-    same(field(line, 1), b"OPc")
+    field(line, 1) == b"OPc".as_slice()
 }
 
-// Puts the octets that field k writes, and answers how many.
+// Puts the octets that field k writes, and answers how many: none where it is no value.
 pub(crate) fn put_value(line: &[u8], k: usize, output: &mut [u8]) -> usize
     requires { length line.now ≤ 2 * length output.old }
     ensures { AtFront (octets_of (field_of k line.now)) output.old result output.new }
 {
-    lines::octets_of_hex(field(line, k), output).count
+    lines::octets_of_hex(field(line, k), output).unwrap_or(0)
 }
 
-// Whether field k is a value.
+// Whether field k is a value. Where no octet has room, a value is refused for want of it, and nothing else is.
 fn has_value(line: &[u8], k: usize) -> bool
-    requires { length line.now ≤ 160 }
     ensures { result ≡ is_value (field_of k line.now) }
 {
-    let mut octets = [0u8; MOST];
-    0 < put_value(line, k, &mut octets)
+    match lines::octets_of_hex(field(line, k), &mut []) {
+        Ok(_) => false,
+        Err(refusal) => matches!(refusal, Refusal::Room),
+    }
 }
 
 // Whether a line ends after RAND, or after SQN and AMF.
 fn ends_right(line: &[u8]) -> bool
-    requires { length line.now ≤ 160 }
     ensures { result ≡ ends_right line.now }
 {
     let count = count_fields(line);

@@ -3,20 +3,18 @@ ghost use Rattle.std.specs.Prelude.{◌+◌, ◌*◌, ◌≤◌, ◌≡◌, ◌+
 ghost use Rattle.lines.specs.Text.{AtFront, Added, hex_text};
 ghost use Rattle.challenge.specs.Texts.{named, results_text, codes_text};
 
-// What every challenge has. All is zero where refused.
+// What every challenge has.
 #[derive(Clone, Copy)]
 pub(crate) struct Results {
-    pub refusal: u8,
     pub res: [u8; 8],
     pub ck: [u8; 16],
     pub ik: [u8; 16],
     pub ak: [u8; 6],
 }
 
-// MAC-A, by which the phone knows the network, and MAC-S, by which the network knows the phone. Both are zero where refused.
+// MAC-A, by which the phone knows the network, and MAC-S, by which the network knows the phone.
 #[derive(Clone, Copy)]
 pub(crate) struct Codes {
-    pub refusal: u8,
     pub network: [u8; 8],
     pub phone: [u8; 8],
 }
@@ -26,7 +24,7 @@ fn add_text(text: &[u8], output: &mut [u8], place: usize) -> usize
     requires { place + length text.now ≤ length output.old }
     ensures { Added text.now output.old place result output.new }
 {
-    place + lines::put_text(text, &mut output[place..]).count
+    place + lines::put_text(text, &mut output[place..]).unwrap()
 }
 
 // Puts octets as capital hex from a place on, and answers the place after them.
@@ -34,7 +32,7 @@ fn add_hex(octets: &[u8], output: &mut [u8], place: usize) -> usize
     requires { place + 2 * length octets.now ≤ length output.old }
     ensures { Added (hex_text octets.now) output.old place result output.new }
 {
-    place + lines::hex_of_octets(octets, &mut output[place..]).count
+    place + lines::hex_of_octets(octets, &mut output[place..]).unwrap()
 }
 
 // Puts a name and its value from a place on, and answers the place after them.
@@ -67,13 +65,9 @@ pub(crate) fn put_results(opc: &[u8], results: Results, output: &mut [u8]) -> us
     requires { (length opc.now ≡ 16) × (145 ≤ length output.old) }
     ensures { AtFront (results_text opc.now results.res results.ck results.ik results.ak) output.old result output.new }
 {
-    let res = results.res;
-    let ck = results.ck;
-    let ik = results.ik;
-    let ak = results.ak;
-    let ck_at = add_two(b"OPc ", opc, b" RES ", &res, output, 0);
-    let ak_at = add_two(b" CK ", &ck, b" IK ", &ik, output, ck_at);
-    add_named(b" AK ", &ak, output, ak_at)
+    let ck_at = add_two(b"OPc ", opc, b" RES ", &results.res, output, 0);
+    let ak_at = add_two(b" CK ", &results.ck, b" IK ", &results.ik, output, ck_at);
+    add_named(b" AK ", &results.ak, output, ak_at)
 }
 
 // Puts MAC-A and MAC-S from a place on, and answers the place after them.
@@ -81,7 +75,12 @@ pub(crate) fn add_codes(codes: Codes, output: &mut [u8], place: usize) -> usize
     requires { place + 46 ≤ length output.old }
     ensures { Added (codes_text codes.network codes.phone) output.old place result output.new }
 {
-    let network = codes.network;
-    let phone = codes.phone;
-    add_two(b" MAC-A ", &network, b" MAC-S ", &phone, output, place)
+    add_two(
+        b" MAC-A ",
+        &codes.network,
+        b" MAC-S ",
+        &codes.phone,
+        output,
+        place,
+    )
 }

@@ -10,7 +10,7 @@ use Rattle.lines.specs.Digits.{within, digit_value, all_digits, value_from, valu
 use Rattle.lines.specs.Lines.{lines_from, lines_of, answers}
 use Rattle.lines.specs.Text.{glyph_of, decimal_digits, decimal_text}
 use Rattle.script.specs.Quoted.{quoted}
-use Rattle.script.specs.Script.{all_printable, begins, is, count_of, place_of, asked_lose, asked_give, asked_store, asked_cell, asked_phone, asked_command, asked}
+use Rattle.script.specs.Script.{all_printable, begins, is, lose_of, at_place, store_of, count_of, place_of, asked_lose, asked_give, asked_store, asked_cell, asked_phone, asked_command, asked}
 use Rattle.numbering.specs.Numbering.{end, mark, marks_of, can_arise}
 use Rattle.keystreams.specs.Key.{prepared}
 use Rattle.frames.specs.Frame.{pair, pair_at, is_whole, look_order}
@@ -38,7 +38,7 @@ told =
     ++ quoted "?          64         command    -          -          0          -\n")
 
 pub script_example : demo_output script ≡ heading ++ told
-unfolding script told demo_output front phone_columns is asked_cell asked_phone kept_ahead new_phone new_cell stored_phone stored_cell told_phone reserve_order is_reservation with_reservation restore_sender_order form_order is_form_long store_sender_order sender_form sender_in link_in word_in form pair quad quads quad_at prepared example_key heading lines_of lines_from answers answer after obeyed asked asked_command all_printable within begins asked_lose asked_give count_of place_of is_number all_digits digit_value value_of value_from losing giving nothing phone_text handed_columns silent_columns cell_columns number_text answer_text refusal_text refusal_words why_text why_words text_column shown_text column decimal_text decimal_digits glyph_of phone_after outcome seal_order sender_can_arise link_can_arise is_service is_direction is_payload first open_order receiver_can_arise can_arise mark marks_of look_order is_whole pair_at frame_kept empty_shelf frame_room new_stage new_sender new_receiver after_frame example_link link_of end
+unfolding script told demo_output front phone_columns is asked_cell asked_phone kept_ahead new_phone new_cell stored_phone stored_cell told_phone reserve_order is_reservation with_reservation restore_sender_order form_order is_form_long store_sender_order sender_form sender_in link_in word_in form pair quad quads quad_at prepared example_key heading lines_of lines_from answers answer after obeyed asked asked_command all_printable within begins asked_lose asked_give lose_of at_place store_of count_of place_of is_number all_digits digit_value value_of value_from losing giving nothing phone_text handed_columns silent_columns cell_columns number_text answer_text refusal_text refusal_words why_text why_words text_column shown_text column decimal_text decimal_digits glyph_of phone_after outcome seal_order sender_can_arise link_can_arise is_service is_direction is_payload first open_order receiver_can_arise can_arise mark marks_of look_order is_whole pair_at frame_kept empty_shelf frame_room new_stage new_sender new_receiver after_frame example_link link_of end
 script_example = refl
 
 -- a script with stores and a pulled plug
@@ -55,7 +55,7 @@ plug_told =
     ++ (quoted "-          0          cut phone  -          -          0          -\n" ++ quoted "ok         9          restarted  -          -          0          -\n")))))
 
 pub plug_example : demo_output plug_script ≡ heading ++ plug_told
-unfolding plug_script plug_told demo_output front phone_columns is asked_cell asked_phone kept_ahead new_phone new_cell stored_phone stored_cell told_phone reserve_order is_reservation with_reservation restore_sender_order form_order is_form_long store_sender_order sender_form sender_in link_in word_in form pair quad quads quad_at prepared example_key heading lines_of lines_from answers answer after obeyed asked asked_command all_printable within begins asked_lose count_of is_number all_digits digit_value value_of value_from losing phone_text silent_columns answer_text refusal_text refusal_words column decimal_text decimal_digits glyph_of phone_after outcome seal_order sender_can_arise link_can_arise is_service is_direction is_payload first receiver_can_arise can_arise mark marks_of pair_at empty_shelf frame_room new_stage new_sender new_receiver after_frame example_link link_of end asked_store storing_phone telling_phone cutting_phone restarting_phone phone_shown cut_shown restarted_phone cut_phone no_link
+unfolding plug_script plug_told demo_output front phone_columns is asked_cell asked_phone kept_ahead new_phone new_cell stored_phone stored_cell told_phone reserve_order is_reservation with_reservation restore_sender_order form_order is_form_long store_sender_order sender_form sender_in link_in word_in form pair quad quads quad_at prepared example_key heading lines_of lines_from answers answer after obeyed asked asked_command all_printable within begins asked_lose lose_of store_of count_of is_number all_digits digit_value value_of value_from losing phone_text silent_columns answer_text refusal_text refusal_words column decimal_text decimal_digits glyph_of phone_after outcome seal_order sender_can_arise link_can_arise is_service is_direction is_payload first receiver_can_arise can_arise mark marks_of pair_at empty_shelf frame_room new_stage new_sender new_receiver after_frame example_link link_of end asked_store storing_phone telling_phone cutting_phone restarting_phone phone_shown cut_shown restarted_phone cut_phone no_link
 plug_example = refl
 
 -- the forms that the bench begins with make the newly opened ends

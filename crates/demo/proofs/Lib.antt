@@ -1,8 +1,7 @@
--- The laws of words, columns, the ends and the shelf, what `demo` writes, and examples.
+-- The laws of columns, the ends and the shelf, what `demo` writes, and examples.
 pub mod Ends
 pub mod Example
 pub mod Kept
 pub mod Run
 pub mod Steps
 pub mod Texts
-pub mod Words

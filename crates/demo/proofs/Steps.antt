@@ -1,67 +1,43 @@
--- The laws of what is done for a line: columns joined to a line, and each step.
+-- The laws of what is done for a line: a line shown, and each step.
 -- Assumes nothing.
 use Prim.Native.Nat.{ℕ, ◌-◌, ◌≤◌, ◌<◌}
 use native.Mathlib.Omega.{arith}
-use mathlib.Core.Path.{◌≡◌, ap, subst, ◌∙◌}
-use mathlib.Core.Bool.{◌||◌}
-use mathlib.Core.List.{List, [], ◌∷◌, ◌++◌, append_assoc}
-use lib.Dec.{eqb, lit≤}
-use lib.ListN.{length, take, length-append}
+use mathlib.Core.Path.{◌≡◌, refl, sym, ap, subst, ◌∙◌}
+use mathlib.Core.Bool.{false}
+use mathlib.Core.Logic.{inl, inr}
+use mathlib.Core.List.{List, ◌∷◌, [], ◌++◌}
+use lib.Dec.{lit≤}
+use lib.ListN.{length, take, drop, drop_of_length-le}
+use Rattle.std.specs.Prelude.{Option, None, Some, unwrap_or}
+use Rattle.std.specs.Borrow.{Bor}
+use Rattle.std.specs.Slice.{IsGetRangeResult}
+use Rattle.std.proofs.lemmas.List.{take_rest}
+use Rattle.refusals.specs.declared.Refusal.{Refusal}
+use Rattle.refusals.specs.declared.Refusal.TheVariants.{Key, Range, Size, Room, Length, Version, Spare, Other, Start, End, Repeat, State, Reserve}
+use Rattle.refusals.specs.Number.{number_of}
 use Rattle.refusals.specs.Call.{Outcome, Answered}
 use Rattle.refusals.proofs.Tests.{by-test}
-use Rattle.lines.specs.Text.{is_hex, hex_order, hex_octets, octets_of_hex_call, decimal_text, AtFront, Added}
+use Rattle.lines.specs.Text.{is_hex, hex_order, hex_octets, octets_of_hex_call, decimal_text, AtFront, ended}
 use Rattle.lines.specs.Hearing.{too_long}
 use Rattle.lines.proofs.Callers.{put_done, hex_fits, hex_read}
-use Rattle.lines.proofs.Placed.{added_more, at_front_added, written_text}
+use Rattle.lines.proofs.Placed.{written_text}
 use Rattle.lines.proofs.Text.{length-hex_octets}
+use Rattle.script.specs.declared.kinds.Why.{Why}
 use Rattle.script.specs.declared.kinds.Why.TheVariants.{Long, Hex}
 use Rattle.script.specs.Quoted.{quoted}
 use Rattle.script.proofs.Lines.{is_long}
-use Rattle.numbering.specs.Numbering.{width}
 use Rattle.sender.specs.Sender.{Sealing}
-use Rattle.receiver.specs.declared.Receiver.{Receiver}
-use Rattle.receiver.specs.Receiver.{Opening, open_call}
+use Rattle.receiver.specs.Receiver.{Opening}
 use Rattle.demo.specs.declared.hosts.Phone.{Phone}
 use Rattle.demo.specs.declared.hosts.Cell.{Cell}
-use Rattle.demo.specs.declared.play.Shelf.{Shelf}
+use Rattle.demo.specs.declared.play.Frame.{Frame}
 use Rattle.demo.specs.declared.play.Stage.{Stage}
-use Rattle.demo.specs.declared.acts.Stepped.{Stepped}
-use Rattle.demo.specs.Columns.{column, phone_columns, cell_columns, silent_columns}
-use Rattle.demo.specs.Ends.{frame_room, number_in, phone_answer, after_sealing, sealed_frame, phone_after, with_receiver, cell_answer, cell_after, opened_text, frame_kept, shelved}
+use Rattle.demo.specs.Columns.{column, phone_text, phone_columns, number_text, answer_text, text_column, cell_columns, silent_columns}
+use Rattle.demo.specs.Ends.{number_in, phone_answer, after_sealing, sealed_frame, phone_after, receiver_in, with_receiver, cell_answer, cell_after, opened_text, shelved}
+use Rattle.demo.specs.Plugs.{with_phone, with_cell, cell_shown}
+use Rattle.demo.specs.Rows.{silent_line}
 use Rattle.demo.specs.Step.{Step, StepCall, reserved_on, expected_on}
-use Rattle.demo.specs.Acts.{sealed_columns, handed_columns, passing, losing, keeping, giving, handing, noising, nothing, done_for, obeyed, HandCall}
-
--- ---- columns joined
-
-module _ {before one two : List ℕ} {a b : List ℕ} where
-  -- two texts, one after the other
-  pub both_put : {place second-place end : ℕ} → second-place ≤ length before
-      → Added a before place second-place one → Added b one second-place end two → Added (a ++ b) before place end two
-  both_put room first second = added_more {a = a} (omega (arith, first.end_is)) first second
-
-  -- three texts
-  pub three_put : {rest after : List ℕ} {place second-place third-place end : ℕ} → third-place ≤ length before
-      → Added a before place second-place one → Added b one second-place third-place two → Added rest two third-place end after
-      → Added (a ++ (b ++ rest)) before place end after
-  three_put {rest} {after} {place} {end = end} room first second third =
-      subst (λ (l : List ℕ). Added l before place end after) (append_assoc a b rest)
-      (added_more {a = a ++ b} (simp length-append (omega (arith, first.end_is, second.end_is)))
-      (added_more {a = a} (omega (arith, first.end_is, second.end_is)) first second) third)
-
-  -- the phone's columns, the box's and the rest of a line are the line
-  pub line_put : {rest after : List ℕ} {end : ℕ} → 33 ≤ length before
-      → Added a before 0 22 one → Added b one 22 33 two → Added rest two 33 end after → AtFront (a ++ (b ++ rest)) before end after
-  line_put room first second third = at_front_added (three_put room first second third)
-
-  -- the four columns of the cell
-  pub cell_put : {c rest three after : List ℕ} {end : ℕ} → 66 ≤ length before
-      → Added a before 33 44 one → Added b one 44 55 two → Added c two 55 66 three → Added rest three 66 end after → Added (a ++ (b ++ (c ++ rest))) before 33 end after
-  cell_put {c} {rest} {after = after} {end} room first second third fourth =
-      let both : length (a ++ b) ≡ 22 = simp length-append (omega (arith, first.end_is, second.end_is)) in
-      let all : length ((a ++ b) ++ c) ≡ 33 = simp length-append (omega (arith, first.end_is, second.end_is, third.end_is)) in
-      subst (λ (l : List ℕ). Added l before 33 end after) (append_assoc (a ++ b) c rest ∙ append_assoc a b (c ++ rest))
-      (added_more {a = (a ++ b) ++ c} (omega arith)
-      (added_more {a = a ++ b} (omega arith) (added_more {a = a} (omega (arith, first.end_is)) first second) third) fourth)
+use Rattle.demo.specs.Acts.{is_given, sealed_columns, handed_columns, handed_with, passing, losing, keeping, handing, noising, nothing, remarking, done_for, obeyed}
 
 -- ---- what is done, once it is known what the phone and the cell answered
 
@@ -69,69 +45,132 @@ module _ {before one two : List ℕ} {a b : List ℕ} where
 abbrev Says : List ℕ → ℕ → List ℕ → List ℕ → Type 0
 Says before written after said = AtFront said before written after
 
-module _ (stage : Stage) {before after : List ℕ} {written : ℕ} where
-  pub passed : (text : List ℕ) {sealed : Outcome Sealing} {phone : Phone} {cell : Cell} → sealed ≡ phone_answer stage.phone text
-      → phone ≡ after_sealing stage.phone (phone_answer stage.phone text) → cell ≡ cell_after stage.cell (sealed_frame sealed)
-      → Says before written after (sealed_columns sealed ++ (column (quoted "passed") ++ handed_columns stage.cell.receiver (sealed_frame sealed)))
-      → StepCall (passing stage text) before (record { stage = record { phone = phone; cell = cell; shelf = stage.shelf }; written = written }) after
-  unfolding passing
-  passed text is phone_is cell_is put = record {
-    stage_is = λ i. record {
-      phone = phone_is i;
-      cell = (cell_is ∙ ap (λ (s : Outcome Sealing). cell_after stage.cell (sealed_frame s)) is) i;
-      shelf = stage.shelf;
-    };
-    said_is = subst (Says before written after) (ap (λ (s : Outcome Sealing). sealed_columns s ++ (column (quoted "passed") ++ handed_columns stage.cell.receiver (sealed_frame s))) is) put;
-  }
+module _ {before after : List ℕ} {written : ℕ} where
+  -- what is done for a step is done for one that equals it
+  pub stepped_as : {one other : Step} {then : Stage} → one ≡ other → StepCall one before then written after → StepCall other before then written after
+  stepped_as {then = then} same call = subst (λ (s : Step). StepCall s before then written after) same call
 
-  pub lost : (count : ℕ) {earlier phone : Phone} {sealed : Outcome Sealing} → earlier ≡ phone_after (count - 1) stage.phone
-      → sealed ≡ phone_answer earlier (quoted "lost") → phone ≡ after_sealing earlier (phone_answer earlier (quoted "lost"))
-      → Says before written after (sealed_columns sealed ++ (column (quoted "lost " ++ decimal_text count) ++ silent_columns (expected_on stage)))
-      → StepCall (losing stage count) before (record { stage = record { phone = phone; cell = stage.cell; shelf = stage.shelf }; written = written }) after
-  unfolding losing
-  lost count earlier-is sealed-is phone_is put =
-      let is = sealed-is ∙ ap (λ (p : Phone). phone_answer p (quoted "lost")) earlier-is in
-      record {
-        stage_is = λ i. record {
-          phone = (phone_is ∙ ap (λ (p : Phone). after_sealing p (phone_answer p (quoted "lost"))) earlier-is) i;
-          cell = stage.cell;
-          shelf = stage.shelf;
-        };
-        said_is = subst (Says before written after) (ap (λ (s : Outcome Sealing). sealed_columns s ++ (column (quoted "lost " ++ decimal_text count) ++ silent_columns (expected_on stage))) is) put;
-      }
+  -- a line for which nothing is done
+  pub remarked : (stage : Stage) (line : List ℕ) → Says before written after (ended line) → StepCall (remarking stage line) before stage written after
+  unfolding remarking ended
+  remarked stage line put = record { stage_is = refl; said_is = put }
 
-  pub kept : (k : ℕ) (text : List ℕ) {sealed : Outcome Sealing} {phone : Phone} {shelf : Shelf} → sealed ≡ phone_answer stage.phone text
-      → phone ≡ after_sealing stage.phone (phone_answer stage.phone text) → shelf ≡ shelved stage.shelf k (sealed_frame sealed)
-      → Says before written after (sealed_columns sealed ++ (column (quoted "kept " ++ decimal_text k) ++ silent_columns (expected_on stage)))
-      → StepCall (keeping stage k text) before (record { stage = record { phone = phone; cell = stage.cell; shelf = shelf }; written = written }) after
-  unfolding keeping
-  kept k text is phone_is shelf-is put = record {
-    stage_is = λ i. record {
-      phone = phone_is i;
-      cell = stage.cell;
-      shelf = (shelf-is ∙ ap (λ (s : Outcome Sealing). shelved stage.shelf k (sealed_frame s)) is) i;
-    };
-    said_is = subst (Says before written after) (ap (λ (s : Outcome Sealing). sealed_columns s ++ (column (quoted "kept " ++ decimal_text k) ++ silent_columns (expected_on stage))) is) put;
-  }
+  pub nothing_done : (stage : Stage) (why : Why) → Says before written after (nothing stage why).said → StepCall (nothing stage why) before stage written after
+  unfolding nothing
+  nothing_done stage why put = record { stage_is = refl; said_is = put }
 
-  pub gave : (k : ℕ) {octets : List ℕ} {cell : Cell} → octets ≡ frame_kept stage.shelf k → cell ≡ cell_after stage.cell octets
-      → Says before written after (phone_columns (quoted "-") (reserved_on stage) ++ (column (quoted "gave " ++ decimal_text k) ++ handed_columns stage.cell.receiver octets))
-      → StepCall (giving stage k) before (record { stage = record { phone = stage.phone; cell = cell; shelf = stage.shelf }; written = written }) after
-  unfolding giving
-  gave k frame_is cell_is put = record {
-    stage_is = λ i. record {
-      phone = stage.phone;
-      cell = (cell_is ∙ ap (cell_after stage.cell) frame_is) i;
-      shelf = stage.shelf;
-    };
-    said_is = subst (Says before written after) (ap (λ (l : List ℕ). phone_columns (quoted "-") (reserved_on stage) ++ (column (quoted "gave " ++ decimal_text k) ++ handed_columns stage.cell.receiver l)) frame_is) put;
-  }
+  -- a line on which the cell is asked for nothing
+  pub silent : {stage stage' : Stage} {phone phone' done done' : List ℕ} → stage ≡ stage' → phone ≡ phone' → done ≡ done'
+      → Says before written after (silent_line stage phone done) → StepCall (record { stage = stage'; said = silent_line stage' phone' done' }) before stage written after
+  silent stage_is phone_is done_is put = record { stage_is = stage_is; said_is = subst (Says before written after) (λ i. silent_line (stage_is i) (phone_is i) (done_is i)) put }
 
-  pub handed_over : (octets : List ℕ) {cell : Cell} → cell ≡ cell_after stage.cell octets
-      → Says before written after (phone_columns (quoted "-") (reserved_on stage) ++ (column (quoted "handed") ++ handed_columns stage.cell.receiver octets))
-      → StepCall (handing stage octets) before (record { stage = record { phone = stage.phone; cell = cell; shelf = stage.shelf }; written = written }) after
-  unfolding handing
-  handed_over octets cell_is put = record { stage_is = λ i. record { phone = stage.phone; cell = cell_is i; shelf = stage.shelf }; said_is = put }
+  -- and one on which the cell shows what it answered
+  pub cell_step : {stage stage' : Stage} {refusal refusal' : ℕ} (done : List ℕ) → stage ≡ stage' → refusal ≡ refusal'
+      → Says before written after (cell_shown stage refusal done).said → StepCall (cell_shown stage' refusal' done) before stage written after
+  unfolding cell_shown
+  cell_step done stage_is refusal_is put =
+      record { stage_is = stage_is; said_is = subst (Says before written after) (λ i. (cell_shown (stage_is i) (refusal_is i) done).said) put }
+
+  module _ (stage : Stage) where
+    pub passed : (text : List ℕ) {sealed : Outcome Sealing} {phone : Phone} {then : Stage} {shown done octets : List ℕ} → sealed ≡ phone_answer stage.phone text
+        → phone ≡ after_sealing stage.phone (phone_answer stage.phone text)
+        → shown ≡ column (phone_text sealed.refusal (number_in sealed)) → done ≡ column (quoted "passed") → octets ≡ sealed_frame sealed
+        → then ≡ record { phone = phone; cell = cell_after stage.cell octets; shelf = stage.shelf }
+        → Says before written after ((shown ++ column (decimal_text sealed.lent.sender.reserved)) ++ (done ++ handed_columns (receiver_in stage.cell) octets))
+        → StepCall (passing stage text) before then written after
+    unfolding passing phone_columns
+    passed text {sealed} is phone_is shown_is done_is frame_is then_is put =
+        let frames = frame_is ∙ ap sealed_frame is in
+        record {
+          stage_is = then_is ∙ (λ i. record { phone = phone_is i; cell = cell_after stage.cell (frames i); shelf = stage.shelf });
+          said_is =
+              subst (Says before written after)
+              ((λ i. (shown_is i ++ column (decimal_text sealed.lent.sender.reserved)) ++ (done_is i ++ handed_columns (receiver_in stage.cell) (frame_is i)))
+              ∙ ap (λ (s : Outcome Sealing). sealed_columns s ++ (column (quoted "passed") ++ handed_columns (receiver_in stage.cell) (sealed_frame s))) is)
+              put;
+        }
+
+    pub lost : (count : ℕ) {earlier phone : Phone} {sealed : Outcome Sealing} {shown done : List ℕ} → earlier ≡ phone_after (count - 1) stage.phone
+        → sealed ≡ phone_answer earlier (quoted "lost") → phone ≡ after_sealing earlier (phone_answer earlier (quoted "lost"))
+        → shown ≡ column (phone_text sealed.refusal (number_in sealed)) → done ≡ column (quoted "lost " ++ decimal_text count)
+        → Says before written after ((shown ++ column (decimal_text sealed.lent.sender.reserved)) ++ (done ++ silent_columns (expected_on stage)))
+        → StepCall (losing stage count) before (with_phone stage phone) written after
+    unfolding losing phone_columns
+    lost count {sealed = sealed} earlier_is sealed_is phone_is shown_is done_is put =
+        let is = sealed_is ∙ ap (λ (p : Phone). phone_answer p (quoted "lost")) earlier_is in
+        record {
+          stage_is = λ i. with_phone stage ((phone_is ∙ ap (λ (p : Phone). after_sealing p (phone_answer p (quoted "lost"))) earlier_is) i);
+          said_is =
+              subst (Says before written after)
+              ((λ i. (shown_is i ++ column (decimal_text sealed.lent.sender.reserved)) ++ (done_is i ++ silent_columns (expected_on stage)))
+              ∙ ap (λ (s : Outcome Sealing). sealed_columns s ++ (column (quoted "lost " ++ decimal_text count) ++ silent_columns (expected_on stage))) is)
+              put;
+        }
+
+    pub kept_so : (k : ℕ) (text : List ℕ) {sealed : Outcome Sealing} {phone : Phone} {shelf : List (Option Frame)} {shown done : List ℕ} → sealed ≡ phone_answer stage.phone text
+        → phone ≡ after_sealing stage.phone (phone_answer stage.phone text) → shelf ≡ shelved stage.shelf k (sealed_frame sealed)
+        → shown ≡ column (phone_text sealed.refusal (number_in sealed)) → done ≡ column (quoted "kept " ++ decimal_text k)
+        → Says before written after ((shown ++ column (decimal_text sealed.lent.sender.reserved)) ++ (done ++ silent_columns (expected_on stage)))
+        → StepCall (keeping stage k text) before (record { phone = phone; cell = stage.cell; shelf = shelf }) written after
+    unfolding keeping phone_columns
+    kept_so k text {sealed} is phone_is shelf_is shown_is done_is put = record {
+      stage_is = λ i. record {
+        phone = phone_is i;
+        cell = stage.cell;
+        shelf = (shelf_is ∙ ap (λ (s : Outcome Sealing). shelved stage.shelf k (sealed_frame s)) is) i;
+      };
+      said_is =
+          subst (Says before written after)
+          ((λ i. (shown_is i ++ column (decimal_text sealed.lent.sender.reserved)) ++ (done_is i ++ silent_columns (expected_on stage)))
+          ∙ ap (λ (s : Outcome Sealing). sealed_columns s ++ (column (quoted "kept " ++ decimal_text k) ++ silent_columns (expected_on stage))) is)
+          put;
+    }
+
+    pub handed : (phone done octets : List ℕ) {answer : Outcome Opening} {cell : Cell} {number shown text : List ℕ} → answer ≡ cell_answer (receiver_in stage.cell) octets
+        → cell ≡ with_receiver stage.cell answer.lent.receiver
+        → number ≡ column (number_text (is_given answer.refusal) (number_in answer)) → shown ≡ column (answer_text answer.refusal) → text ≡ opened_text answer
+        → Says before written after
+        ((phone ++ column (decimal_text (reserved_on stage)))
+        ++ (done ++ (number ++ (shown ++ (column (decimal_text answer.lent.receiver.numbering.next) ++ text_column text)))))
+        → StepCall (handed_with stage phone done octets) before (with_cell stage cell) written after
+    unfolding handed_columns cell_columns
+    handed phone done octets {answer} is cell_is number_is shown_is text_is put = record {
+      stage_is = λ i. with_cell stage ((cell_is ∙ ap (λ (o : Outcome Opening). with_receiver stage.cell o.lent.receiver) is) i);
+      said_is =
+          subst (Says before written after)
+          ((λ i. (phone ++ column (decimal_text (reserved_on stage)))
+          ++ (done ++ (number_is i ++ (shown_is i ++ (column (decimal_text answer.lent.receiver.numbering.next) ++ text_column (text_is i))))))
+          ∙ ap (λ (o : Outcome Opening). (phone ++ column (decimal_text (reserved_on stage)))
+          ++ (done ++ (column (number_text (is_given o.refusal) (number_in o)) ++ (column (answer_text o.refusal) ++ (column (decimal_text o.lent.receiver.numbering.next) ++ text_column (opened_text o)))))) is)
+          put;
+    }
+
+-- what stands from a place of the line on; nothing where the line ends before it
+pub rest_from : (line : List ℕ) (from : ℕ) (got : Option (Bor (List ℕ))) (nothing : Bor (List ℕ)) {rest : Bor (List ℕ)} → IsGetRangeResult line from (length line) got
+    → nothing.now ≡ [] → rest ≡ unwrap_or got nothing → rest.now ≡ drop from line
+rest_from line from None nothing is empty rest_is =
+    let short : length line ≤ from = elim is.0 [
+      | inl past ↦ omega (arith, past)
+      | inr past ↦ omega (arith, past)
+    ] in
+    ap (λ (b : Bor (List ℕ)). b.now) rest_is ∙ empty ∙ sym (drop_of_length-le line short)
+rest_from line from (Some part) nothing is empty rest_is = ap (λ (b : Bor (List ℕ)). b.now) rest_is ∙ is.0.2 ∙ take_rest line from
+
+-- the number is given with no other refusal
+pub not_given : (refusal : Refusal) → (refusal ≡ Repeat → ⊥) → (refusal ≡ Room → ⊥) → is_given (number_of refusal) ≡ false
+not_given Key repeat room = refl
+not_given Range repeat room = refl
+not_given Size repeat room = refl
+not_given Room repeat room = absurd (room refl)
+not_given Length repeat room = refl
+not_given Version repeat room = refl
+not_given Spare repeat room = refl
+not_given Other repeat room = refl
+not_given Start repeat room = refl
+not_given End repeat room = refl
+not_given Repeat repeat room = absurd (repeat refl)
+not_given State repeat room = refl
+not_given Reserve repeat room = refl
 
 module _ (stage : Stage) where
   -- pairs of hex digits in a line are few enough for the room that they are lent
@@ -149,21 +188,6 @@ module _ (stage : Stage) where
     noise_some done =
         ap (handing stage) (written_text (put_done (hex_order text before) (hex_octets text) before answered done)) ∙ rw (hex_read text before answered done)
 
--- the columns of what the cell answered
-abbrev columns_of : Receiver → List ℕ → Outcome Opening → List ℕ
-columns_of cell octets answer =
-    cell_columns (eqb answer.refusal 0 || (open_call width cell octets frame_room).candidate_with answer.refusal) answer.refusal (number_in answer)
-    answer.lent.receiver.numbering.next (opened_text answer)
-
-pub handed : (cell : Cell) (octets : List ℕ) {before after : List ℕ} {answer : Outcome Opening} {end : ℕ} → answer ≡ cell_answer cell.receiver octets
-    → Added (columns_of cell.receiver octets answer) before 33 end after
-    → HandCall cell octets before (record { cell = with_receiver cell answer.lent.receiver; end = end }) after
-unfolding handed_columns
-handed cell octets {before} {after} {end = end} is put = record {
-  cell_is = ap (λ (o : Outcome Opening). with_receiver cell o.lent.receiver) is;
-  columns_are = subst (λ (l : List ℕ). Added l before 33 end after) (ap (columns_of cell.receiver octets) is) put;
-}
-
 -- for a line that is too long nothing is done
 pub long_nothing : (stage : Stage) (line : List ℕ) → 48 < length line → nothing stage Long ≡ obeyed stage line
 unfolding obeyed
@@ -172,7 +196,3 @@ long_nothing stage line long = ap (done_for stage line) (is_long line long)
 pub long_done : (stage : Stage) → nothing stage Long ≡ obeyed stage too_long
 unfolding too_long
 long_done stage = long_nothing stage too_long (lit≤ tt)
-
--- what is done for a step is done for one that equals it
-pub stepped_as : {one other : Step} {before output : List ℕ} {stepped : Stepped} → one ≡ other → StepCall one before stepped output → StepCall other before stepped output
-stepped_as {before = before} {output} {stepped} same call = subst (λ (s : Step). StepCall s before stepped output) same call

@@ -1,55 +1,48 @@
--- The laws of columns: a text put over another, and texts as they are shown.
+-- The laws of columns: a word and a number as one column, six columns as a line, and texts as they are shown.
 -- Assumes nothing.
-use Prim.Native.Nat.{ℕ, suc, ◌+◌, ◌/◌, ◌≤◌, ◌<◌}
+use Prim.Native.Nat.{ℕ, suc, ◌+◌, ◌-◌, ◌/◌, ◌≤◌, ◌<◌}
 use native.Mathlib.Decide.{dec_lt}
 use native.Mathlib.Numerals.{add-one}
 use native.Mathlib.Omega.{arith}
-use mathlib.Core.Path.{◌≡◌, refl, sym, ap, ap₂, ◌∙◌}
+use mathlib.Core.Path.{◌≡◌, refl, sym, ap, ap₂, subst, ◌∙◌}
 use mathlib.Core.List.{List, [], ◌∷◌, ◌++◌, append_assoc, append-nil}
 use borrow.Author.Tests.{eq-eqb, ne_eqb}
 use lib.Dec.{lit≤}
 use lib.ListN.{length, get_or, take, drop, set, replicate, length-append, length-drop, take-append-drop}
-use lib.Seq.{length-take-le, take-suc, take_at, drop_at, drop-drop, drop-append-le, take-length}
-use Rattle.refusals.specs.Call.{front}
+use lib.Seq.{length-take-le, take-suc, take-length}
+use Rattle.std.proofs.lemmas.List.{drop-append-le}
+use Rattle.refusals.specs.Call.{Answered, front}
 use Rattle.octets.proofs.Listed.{front_store}
-use Rattle.lines.specs.Text.{decimal_text, AtFront, Added}
-use Rattle.lines.proofs.Digits.{within_both, within_below, within_above}
+use Rattle.lines.specs.Text.{put_text_call, decimal_text, AtFront, Added}
 use Rattle.lines.proofs.InDecimal.{decimal_one, length_more}
+use Rattle.lines.proofs.Placed.{added_put, at_front_more}
 use Rattle.demo.specs.Columns.{column, shown, shown_text, text_column}
-
--- ---- a text over another
-
-module _ {a b before middle after : List ℕ} {place end last : ℕ} (room : place + length a ≤ length before) (one : Added a before place end middle) where
-  -- a shorter text put at the same place leaves the rest of the longer one
-  pub added_over : Added b middle place last after → length b ≤ length a → Added (b ++ drop (length b) a) before place (place + length a) after
-  added_over other short =
-      let head : length (take place before) ≡ place = length-take-le place before (omega arith) in
-      let kept : List ℕ = drop (place + length a) before in
-      let whole : length (b ++ drop (length b) a) ≡ length a = simp (length-append, length-drop) (omega arith) in
-      let from : drop place middle ≡ a ++ kept = ap (drop place) one.output_is ∙ drop_at (take place before) (a ++ kept) place head in
-      record {
-        end_is = ap (λ (n : ℕ). place + n) (sym whole);
-        output_is =
-            other.output_is
-            ∙ ap₂ (λ (p q : List ℕ). p ++ (b ++ q))
-            (ap (take place) one.output_is ∙ take_at (take place before) (a ++ kept) place head)
-            (sym (drop-drop (length b) place middle) ∙ ap (drop (length b)) from ∙ drop-append-le (length b) a kept short)
-            ∙ ap (λ (l : List ℕ). take place before ++ l)
-            (sym (append_assoc b (drop (length b) a) kept) ∙ ap (λ (n : ℕ). (b ++ drop (length b) a) ++ drop (place + n) before) (sym whole));
-      }
 
 -- what is written at the front lies within the output
 pub front_within : {text before : List ℕ} {written : ℕ} {after : List ℕ} → AtFront text before written after → written ≤ length after
 unfolding front
 front_within {text} {before} put = omega (arith, put.written_is, ap length put.output_is, length-append text (drop (length text) before))
 
--- a text over an empty column is a column
-pub column_put : {text before middle after : List ℕ} {place end last : ℕ} → place + 11 ≤ length before → length text ≤ 11
-    → Added (replicate 11 32) before place end middle → Added text middle place last after → Added (column text) before place (place + 11) after
-unfolding column
-column_put room short one other = added_over room one other short
+-- what is put at the front of the first octets of an output is at the front of the output
+pub front_of : (room : ℕ) {text before output : List ℕ} {written : ℕ} {after : List ℕ} → before ≡ take room output → room ≤ length output → length after ≡ length before
+    → AtFront text before written after → AtFront text output written (after ++ drop room output)
+unfolding front
+front_of room {text} {before} {output} {after = after} is enough whole put =
+    let rest : List ℕ = drop room output in
+    let long : length before ≡ room = ap length is ∙ length-take-le room output enough in
+    let within : length text ≤ length before = omega (arith, long, whole, ap length put.output_is, length-append text (drop (length text) before)) in
+    record {
+      written_is = put.written_is;
+      output_is =
+          ap (λ (l : List ℕ). l ++ rest) put.output_is
+          ∙ append_assoc text (drop (length text) before) rest
+          ∙ ap (λ (l : List ℕ). text ++ l)
+          (sym (drop-append-le (length text) before rest within)
+          ∙ ap (λ (l : List ℕ). drop (length text) (l ++ rest)) is
+          ∙ ap (drop (length text)) (take-append-drop room output));
+    }
 
-pub length-column : (text : List ℕ) → length text ≤ 11 → length (column text) ≡ 11
+length-column : (text : List ℕ) → length text ≤ 11 → length (column text) ≡ 11
 unfolding column
 length-column text short = simp (length-append, length-drop) (omega arith)
 
@@ -66,27 +59,37 @@ below_hundred number small =
       | no more ↦ omega (arith, length_more number (omega arith) (omega arith), below_ten (number / 10) (omega arith))
     ]
 
-pub below_thousand : (number : ℕ) → number < 1000 → length (decimal_text number) ≤ 3
+below_thousand : (number : ℕ) → number < 1000 → length (decimal_text number) ≤ 3
 below_thousand number small =
     elim (dec_lt number 10) [
       | yes one ↦ omega (arith, below_ten number one)
       | no more ↦ omega (arith, length_more number (omega arith) (omega arith), below_hundred (number / 10) (omega arith))
     ]
 
+-- a word, and a number where it ends
+pub counted_put : (word column_of : List ℕ) (number : ℕ) {refusal count : ℕ} {last : List ℕ} → length word ≤ 8 → number < 1000 → column_of ≡ column word
+    → Answered (put_text_call (decimal_text number) (take (11 - length word) (drop (length word) column_of))) refusal (count ∷ []) last
+    → take (length word) column_of ++ (last ++ drop (11 - length word) (drop (length word) column_of)) ≡ column (word ++ decimal_text number)
+unfolding column front
+counted_put word column_of number {refusal} {count} {last} short small is answered =
+    let put : AtFront word (replicate 11 32) (length word) column_of = record { written_is = refl; output_is = is } in
+    let long : 11 ≡ length column_of = sym (ap length is ∙ length-column word (omega arith)) in
+    let all : Answered (put_text_call (decimal_text number) (take (length column_of - length word) (drop (length word) column_of))) refusal (count ∷ []) last =
+    subst (λ (n : ℕ). Answered (put_text_call (decimal_text number) (take (n - length word) (drop (length word) column_of))) refusal (count ∷ []) last) long answered in
+    ap (λ (n : ℕ). take (length word) column_of ++ (last ++ drop (n - length word) (drop (length word) column_of))) long
+    ∙ (at_front_more put (added_put column_of (length word) (decimal_text number) all (omega (arith, below_thousand number small)))).output_is
+
+-- ---- a line
+
+-- six columns and what is put after them
+pub line_put : (a b c d e f : List ℕ) {flat rest before middle after : List ℕ} {end : ℕ} → flat ≡ a ++ (b ++ (c ++ (d ++ (e ++ (f ++ []))))) → length flat ≡ 66
+    → middle ≡ flat ++ drop 66 before → Added rest middle 66 end after → AtFront ((a ++ b) ++ (c ++ (d ++ (e ++ (f ++ rest))))) before end after
+unfolding front
+line_put a b c d e f {flat} {rest} {before} {after = after} {end} is whole kept put =
+    subst (λ (l : List ℕ). AtFront l before end after) (ap (λ (l : List ℕ). l ++ rest) is ∙ simp (append_assoc, append-nil))
+    (at_front_more {text = flat} (record { written_is = sym whole; output_is = kept ∙ ap (λ (n : ℕ). flat ++ drop n before) (sym whole) }) put)
+
 -- ---- texts as they are shown
-
-module _ (octet : ℕ) where
-  pub shown_low : octet < 32 → 46 ≡ shown octet
-  unfolding shown
-  shown_low low = rw (within_below 32 126 octet low)
-
-  pub shown_high : 126 < octet → 46 ≡ shown octet
-  unfolding shown
-  shown_high high = rw (within_above 32 126 octet (omega arith) high)
-
-  pub shown_itself : 32 ≤ octet → octet ≤ 126 → octet ≡ shown octet
-  unfolding shown
-  shown_itself from to = rw (within_both 32 126 octet from to)
 
 shown_append : (a b : List ℕ) → shown_text (a ++ b) ≡ shown_text a ++ shown_text b
 unfolding shown_text
@@ -116,10 +119,6 @@ module _ (text before : List ℕ) (place : ℕ) where
   module _ (i : ℕ) (room : place + length text ≤ length before) where
     long : i ≤ length text → length (take place before ++ shown_text (take i text)) ≡ place + i
     long inside = simp (length-append, length-shown) (omega (arith, length-take-le place before (omega arith), length-take-le i text inside))
-
-    pub length_so_far : i ≤ length text → length (shown_so_far i) ≡ length before
-    unfolding shown_so_far
-    length_so_far inside = simp (length-append, length-drop) (omega (arith, simp length-append at (long inside)))
 
     pub shown_turn : i < length text → set (shown_so_far i) (place + i) (shown (get_or text i 0)) ≡ shown_so_far (i + 1)
     unfolding shown_so_far

@@ -1,9 +1,9 @@
 -- What is done for a line, and what is answered to it. Assumes nothing.
-use Rattle.std.specs.Prelude.{ℕ, ◌-◌, ◌≡◌, cond, ◌||◌, List, ◌++◌, eqb, drop}
+use Rattle.std.specs.Prelude.{ℕ, ◌-◌, Bool, cond, ◌||◌, List, ◌++◌, eqb, drop, Result, Ok, Err}
 use Rattle.refusals.specs.Call.{Outcome}
-use Rattle.lines.specs.Text.{is_hex, hex_octets, decimal_text, Added}
+use Rattle.lines.specs.Text.{is_hex, hex_octets, decimal_text}
 use Rattle.script.specs.declared.kinds.Asked.{Asked}
-use Rattle.script.specs.declared.kinds.Asked.TheVariants.{Remark, Pass, Lose, Keep, Give, Noise, StorePhone, TellPhone, CutPhone, RestartPhone, StoreCell, CutCell, RestartCell, Bad}
+use Rattle.script.specs.declared.kinds.Asked.TheVariants.{Remark, Pass, Lose, Keep, Give, Noise, StorePhone, TellPhone, CutPhone, RestartPhone, StoreCell, CutCell, RestartCell}
 use Rattle.script.specs.declared.kinds.Why.{Why}
 use Rattle.script.specs.declared.kinds.Why.TheVariants.{Hex}
 use Rattle.script.specs.Quoted.{quoted}
@@ -12,11 +12,9 @@ use Rattle.numbering.specs.Numbering.{width}
 use Rattle.sender.specs.Sender.{Sealing}
 use Rattle.receiver.specs.declared.Receiver.{Receiver}
 use Rattle.receiver.specs.Receiver.{open_call}
-use Rattle.demo.specs.declared.hosts.Cell.{Cell}
 use Rattle.demo.specs.declared.play.Stage.{Stage}
-use Rattle.demo.specs.declared.acts.Handed.{Handed}
 use Rattle.demo.specs.Columns.{column, phone_text, phone_columns, why_text, cell_columns, silent_columns}
-use Rattle.demo.specs.Ends.{frame_room, number_in, phone_answer, after_sealing, sealed_frame, phone_after, cell_answer, cell_after, opened_text, frame_kept, shelved}
+use Rattle.demo.specs.Ends.{frame_room, number_in, receiver_in, phone_answer, after_sealing, sealed_frame, phone_after, cell_answer, cell_after, opened_text, frame_kept, shelved}
 use Rattle.demo.specs.Step.{Step, reserved_on, expected_on}
 use Rattle.demo.specs.Plugs.{storing_phone, telling_phone, cutting_phone, restarting_phone, storing_cell, cutting_cell, restarting_cell}
 
@@ -31,6 +29,17 @@ handed_columns cell octets =
     let given = eqb answer.refusal 0 || (open_call width cell octets frame_room).candidate_with answer.refusal in
     cell_columns given answer.refusal (number_in answer) answer.lent.receiver.numbering.next (opened_text answer)
 
+-- whether the number is given with an answer
+abbrev pub is_given : ℕ → Bool
+is_given refusal = eqb refusal 0 || (eqb refusal 11 || eqb refusal 4)
+
+-- octets are handed to the cell, where the phone's column and the box's show this
+abbrev pub handed_with : Stage → List ℕ → List ℕ → List ℕ → Step
+handed_with stage phone done octets = record {
+  stage = record { phone = stage.phone; cell = cell_after stage.cell octets; shelf = stage.shelf };
+  said = (phone ++ column (decimal_text (reserved_on stage))) ++ (done ++ handed_columns (receiver_in stage.cell) octets);
+}
+
 -- the phone seals a text, and the box hands the frame to the cell
 unfoldable pub passing : Stage → List ℕ → Step
 passing stage text =
@@ -38,7 +47,7 @@ passing stage text =
     let frame = sealed_frame sealed in
     record {
       stage = record { phone = after_sealing stage.phone sealed; cell = cell_after stage.cell frame; shelf = stage.shelf };
-      said = sealed_columns sealed ++ (column (quoted "passed") ++ handed_columns stage.cell.receiver frame);
+      said = sealed_columns sealed ++ (column (quoted "passed") ++ handed_columns (receiver_in stage.cell) frame);
     }
 
 -- the phone seals so many frames, one at least, and the box loses them all; the phone's column shows the last of them
@@ -66,14 +75,14 @@ giving stage k =
     let frame = frame_kept stage.shelf k in
     record {
       stage = record { phone = stage.phone; cell = cell_after stage.cell frame; shelf = stage.shelf };
-      said = phone_columns (quoted "-") (reserved_on stage) ++ (column (quoted "gave " ++ decimal_text k) ++ handed_columns stage.cell.receiver frame);
+      said = phone_columns (quoted "-") (reserved_on stage) ++ (column (quoted "gave " ++ decimal_text k) ++ handed_columns (receiver_in stage.cell) frame);
     }
 
 -- the box hands octets of its own to the cell
 unfoldable pub handing : Stage → List ℕ → Step
 handing stage octets = record {
   stage = record { phone = stage.phone; cell = cell_after stage.cell octets; shelf = stage.shelf };
-  said = phone_columns (quoted "-") (reserved_on stage) ++ (column (quoted "handed") ++ handed_columns stage.cell.receiver octets);
+  said = phone_columns (quoted "-") (reserved_on stage) ++ (column (quoted "handed") ++ handed_columns (receiver_in stage.cell) octets);
 }
 
 -- nothing is done for a bad line: a question mark, and the word that says why
@@ -89,26 +98,21 @@ unfoldable pub remarking : Stage → List ℕ → Step
 remarking stage line = record { stage = stage; said = line ++ quoted "\n" }
 
 -- what is done for a line that asks so: the text of `pass` stands from place 5 on, that of `keep` from 7, the digits of `noise` from 6
-abbrev pub done_for : Stage → List ℕ → Asked → Step
-done_for stage line Remark = remarking stage line
-done_for stage line Pass = passing stage (drop 5 line)
-done_for stage line (Lose count) = losing stage count
-done_for stage line (Keep k) = keeping stage k (drop 7 line)
-done_for stage line (Give k) = giving stage k
-done_for stage line Noise = noising stage (drop 6 line)
-done_for stage line (StorePhone count) = storing_phone stage count
-done_for stage line TellPhone = telling_phone stage
-done_for stage line CutPhone = cutting_phone stage
-done_for stage line RestartPhone = restarting_phone stage
-done_for stage line StoreCell = storing_cell stage
-done_for stage line CutCell = cutting_cell stage
-done_for stage line RestartCell = restarting_cell stage
-done_for stage line (Bad why) = nothing stage why
+abbrev pub done_for : Stage → List ℕ → Result Asked Why → Step
+done_for stage line (Ok Remark) = remarking stage line
+done_for stage line (Ok Pass) = passing stage (drop 5 line)
+done_for stage line (Ok (Lose count)) = losing stage count
+done_for stage line (Ok (Keep k)) = keeping stage k (drop 7 line)
+done_for stage line (Ok (Give k)) = giving stage k
+done_for stage line (Ok Noise) = noising stage (drop 6 line)
+done_for stage line (Ok (StorePhone count)) = storing_phone stage count
+done_for stage line (Ok TellPhone) = telling_phone stage
+done_for stage line (Ok CutPhone) = cutting_phone stage
+done_for stage line (Ok RestartPhone) = restarting_phone stage
+done_for stage line (Ok StoreCell) = storing_cell stage
+done_for stage line (Ok CutCell) = cutting_cell stage
+done_for stage line (Ok RestartCell) = restarting_cell stage
+done_for stage line (Err why) = nothing stage why
 
 unfoldable pub obeyed : Stage → List ℕ → Step
 obeyed stage line = done_for stage line (asked line)
-
--- octets handed to the cell: the cell afterwards, and its columns in an output
-pub record HandCall (cell : Cell) (octets before : List ℕ) (handed : Handed) (output : List ℕ) : Type 0 where
-  pub cell_is : handed.cell ≡ cell_after cell octets
-  pub columns_are : Added (handed_columns cell.receiver octets) before 33 handed.end output

@@ -1,10 +1,9 @@
 -- The rules of the demonstration, and what it writes for a script. Hearing and answering line by line is said once in the crate `lines`.
 -- Assumes nothing.
 use Rattle.std.specs.Prelude.{ℕ, List, ◌++◌}
-use Rattle.lines.specs.Hearing.{silence, Rules, Standing}
+use Rattle.lines.specs.Hearing.{Rules}
 use Rattle.lines.specs.Lines.{lines_of, answers}
 use Rattle.script.specs.Quoted.{quoted}
-use Rattle.demo.specs.declared.play.Play.{Play}
 use Rattle.demo.specs.declared.play.Stage.{Stage}
 use Rattle.demo.specs.Columns.{column}
 use Rattle.demo.specs.Ends.{new_phone, new_cell, empty_shelf}
@@ -25,17 +24,9 @@ after stage line = (obeyed stage line).stage
 abbrev pub demo_rules : Rules Stage
 demo_rules = record { answer = answer; after = after; room = room }
 
--- a play stands at its stage and at the line so far
-abbrev pub standing : Play → Standing Stage
-standing play = record { state = play.stage; heard = play.heard }
-
 -- the stage at the start: both ends newly opened on the same link, and nothing on the shelf
 unfoldable pub new_stage : Stage
 new_stage = record { phone = new_phone; cell = new_cell; shelf = empty_shelf }
-
--- at the start nothing is heard, and nothing is written
-unfoldable pub new_play : Play
-new_play = record { heard = silence; stage = new_stage; written = 0 }
 
 -- the heading: the names of the columns
 unfoldable pub heading : List ℕ

@@ -4,9 +4,10 @@ use Rattle.lines.specs.Text.{decimal_text}
 use Rattle.script.specs.Quoted.{quoted}
 use Rattle.demo.specs.declared.hosts.Phone.{Phone}
 use Rattle.demo.specs.declared.hosts.Cell.{Cell}
+use Rattle.demo.specs.declared.hosts.Keeper.TheVariants.{Script}
 use Rattle.demo.specs.declared.play.Stage.{Stage}
 use Rattle.demo.specs.Columns.{column, phone_columns, answer_text, cell_columns, silent_columns}
-use Rattle.demo.specs.Ends.{store_answer, stored_phone, tell_answer, told_phone, restart_answer, restarted_phone, cut_phone, store_cell_answer, stored_cell, restart_cell_answer, restarted_cell, cut_cell}
+use Rattle.demo.specs.Ends.{sender_in, store_answer, stored_phone, tell_answer, told_phone, restart_answer, restarted_phone, cut_phone, store_cell_answer, stored_cell, restart_cell_answer, restarted_cell, cut_cell}
 use Rattle.demo.specs.Step.{Step, reserved_on, expected_on}
 
 -- a stage with another phone, or with another cell
@@ -43,11 +44,11 @@ cut_shown stage done = record {
 
 -- a phone of which the bench keeps no reservation ahead by itself any more: from its first `store phone` or `tell phone` on the script sees to it
 abbrev pub by_hand : Phone → Phone
-by_hand phone = record { sender = phone.sender; form = phone.form; automatic = false }
+by_hand phone = record { sender = phone.sender; form = phone.form; keeper = Script }
 
 -- the reservation so far above the phone's next number; a reservation is a number of 32 bits
 abbrev pub reservation : Phone → ℕ → ℕ
-reservation phone count = min (phone.sender.next + count) (2 ^ 32 - 1)
+reservation phone count = min ((sender_in phone).next + count) (2 ^ 32 - 1)
 
 -- the phone is stored with a reservation so far above its next number
 unfoldable pub storing_phone : Stage → ℕ → Step

@@ -1,14 +1,9 @@
 -- The words of an answer: the tables of words. The one for refusals has a row for each. Assumes nothing.
-use Rattle.std.specs.Prelude.{ℕ, ◌-◌, cond, List, [], ◌∷◌, ◌++◌, length, get_or}
+use Rattle.std.specs.Prelude.{ℕ, ◌-◌, cond, List, [], ◌∷◌, length, get_or}
 use Prim.Native.String.{String}
 use Rattle.lines.specs.Digits.{within}
 use Rattle.lines.specs.Text.{decimal_text}
 use Rattle.script.specs.Quoted.{quoted}
-
--- the rows of a table, one after the other
-abbrev pub joined : List String → List ℕ
-joined [] = []
-joined (row ∷ rest) = quoted row ++ joined rest
 
 -- the words for refusals, one row a refusal from number 1 on, each filled up to ten octets
 unfoldable pub refusal_words : List String

@@ -1,263 +1,192 @@
-// The columns of an answer: each is put from a place of the output on, and is eleven octets wide.
-ghost use Rattle.std.specs.Prelude.{◌≡◌, ◌++◌, ◌+◌, ◌≤◌, ◌<◌, length, take, drop, replicate};
-ghost use Rattle.lines.specs.Text.{Added, decimal_text};
-ghost use Rattle.demo.specs.Words.{joined, refusal_words, refusal_text};
-ghost use Rattle.demo.specs.Columns.{column, phone_text, phone_columns, number_text, answer_text, shown as Columns·shown, shown_text, text_column, cell_columns, silent_columns, why_row, why_text};
+// The columns of an answer, each eleven octets wide, and the line that they stand in.
+ghost use Rattle.std.specs.Prelude.{◌≡◌, ◌++◌, ◌+◌, ◌≤◌, ◌<◌, length};
+ghost use Rattle.refusals.specs.Number.{number_of, refusal_of};
+ghost use Rattle.sender.specs.Sealed.{number_in};
+ghost use Rattle.lines.specs.Text.{AtFront, Added, decimal_text};
+ghost use Rattle.demo.specs.Words.{refusal_text};
+ghost use Rattle.demo.specs.Columns.{column as Columns·column, phone_text, answer_text, why_text, shown as Columns·shown, text_column};
+ghost use Rattle.demo.specs.Rows.{line_of, silent_line};
 
+use crate::play::Stage;
+use refusals::Refusal;
 use script::Why;
+use sender::Sealed;
 
-// How wide a column is; that of the phone's reservation begins there.
-const WIDTH: usize = 11;
+// How wide a column is.
+pub(crate) const WIDTH: usize = 11;
 
-// Where the box's column begins.
-pub(crate) const BOX: usize = 22;
+// Where the last column begins, which is the text's.
+const TEXT: usize = 66;
 
-// How wide a row of a table of words is.
-const ROW: usize = 10;
+// The room for an answer: six columns, a text of at most 46 octets, and the line feed.
+pub(crate) const ROOM: usize = 113;
 
-// Puts a text from a place on.
-pub(crate) fn add(text: &[u8], output: &mut [u8], place: usize)
-    requires { place + length text.now ≤ length output.old }
-    ensures { Added text.now output.old place (place + length text.now) output.new }
-{
-    lines::put_text(text, &mut output[place..]);
+// The column where there is nothing to show.
+pub(crate) const NONE: [u8; WIDTH] = *b"-          ";
+
+// Of the columns of a line those that are not the same for every line of a stage.
+#[derive(Clone, Copy)]
+pub(crate) struct Row {
+    pub phone: [u8; WIDTH],
+    pub done: [u8; WIDTH],
+    pub number: [u8; WIDTH],
+    pub answer: [u8; WIDTH],
 }
 
-// Puts a number in decimal from a place on.
-fn add_digits(number: u32, output: &mut [u8], place: usize)
-    requires { place + length (decimal_text number) ≤ length output.old }
-    ensures { Added (decimal_text number) output.old place (place + length (decimal_text number)) output.new }
+// ---- a column
+
+// A text as a column.
+#[tactic(auto, unfolding(crate::specs::Columns::column))]
+pub(crate) fn column(text: &[u8]) -> [u8; WIDTH]
+    requires { length text.now ≤ 11 }
+    ensures { result ≡ Columns·column text.now }
 {
-    lines::decimal_of_number(number, &mut output[place..]);
+    let mut column = [b' '; WIDTH];
+    column[..text.len()].copy_from_slice(text);
+    column
 }
 
-// Puts an empty column.
-fn blank(output: &mut [u8], place: usize)
-    requires { place + 11 ≤ length output.old }
-    ensures { Added (replicate 11 32) output.old place (place + 11) output.new }
+// A number in decimal as a column.
+pub(crate) fn numbered(number: u32) -> [u8; WIDTH]
+    ensures { result ≡ Columns·column (decimal_text number) }
 {
-    add(b"           ", output, place);
+    let mut column = [b' '; WIDTH];
+    let _ = lines::decimal_of_number(number, &mut column);
+    column
 }
 
-// Puts a text as a column.
-pub(crate) fn add_column(text: &[u8], output: &mut [u8], place: usize)
-    requires { (length text.now ≤ 11) × (place + 11 ≤ length output.old) }
-    ensures { Added (column text.now) output.old place (place + 11) output.new }
+// A word of at most eight octets and a number of at most three digits as one column.
+pub(crate) fn counted(word: &[u8], number: u32) -> [u8; WIDTH]
+    requires { (length word.now ≤ 8) × (number < 1000) }
+    ensures { result ≡ Columns·column (word.now ++ decimal_text number) }
 {
-    blank(output, place);
-    add(text, output, place);
+    let mut column = column(word);
+    let _ = lines::decimal_of_number(number, &mut column[word.len()..]);
+    column
 }
 
-// Puts a number in decimal as a column.
-fn add_number(number: u32, output: &mut [u8], place: usize)
-    requires { place + 11 ≤ length output.old }
-    ensures { Added (column (decimal_text number)) output.old place (place + 11) output.new }
+// The word for a refusal.
+fn word_of(refusal: Refusal) -> &'static [u8; 10]
+    ensures { result.now ≡ refusal_text (number_of refusal) }
 {
-    blank(output, place);
-    add_digits(number, output, place);
-}
-
-// Puts a word of at most eight octets and a number of at most three digits as one column.
-pub(crate) fn add_counted(text: &[u8], number: u32, output: &mut [u8], place: usize)
-    requires { (length text.now ≤ 8) × ((number < 1000) × (place + 11 ≤ length output.old)) }
-    ensures { Added (column (text.now ++ decimal_text number)) output.old place (place + 11) output.new }
-{
-    blank(output, place);
-    add(text, output, place);
-    add_digits(number, output, place + text.len());
-}
-
-// Puts a row of a table of words as a column.
-fn add_row(table: &[u8], from: usize, output: &mut [u8], place: usize)
-    requires { (from + 10 ≤ length table.now) × (place + 11 ≤ length output.old) }
-    ensures { Added (column (take 10 (drop from table.now))) output.old place (place + 11) output.new }
-{
-    let end = from + ROW;
-    add_column(&table[from..end], output, place);
-}
-
-// Puts the row that the table has for a refusal, or the number alone where it has none.
-fn add_row_of(table: &[u8], refusal: u8, output: &mut [u8], place: usize)
-    requires { (table.now ≡ joined refusal_words) × ((0 < refusal) × (place + 11 ≤ length output.old)) }
-    ensures { Added (column (refusal_text refusal)) output.old place (place + 11) output.new }
-{
-    let end = ROW * refusal as usize;
-    if table.len() < end {
-        add_number(refusal as u32, output, place);
-        return;
+    match refusal {
+        Refusal::Key => b"1 key     ",
+        Refusal::Range => b"2 range   ",
+        Refusal::Size => b"3 size    ",
+        Refusal::Room => b"4 room    ",
+        Refusal::Length => b"5 length  ",
+        Refusal::Version => b"6 version ",
+        Refusal::Spare => b"7 spare   ",
+        Refusal::Other => b"8 other   ",
+        Refusal::Start => b"9 start   ",
+        Refusal::End => b"10 end    ",
+        Refusal::Repeat => b"11 repeat ",
+        Refusal::State => b"12 state  ",
+        Refusal::Reserve => b"13 reserve",
     }
-    add_row(table, end - ROW, output, place);
 }
 
-// Puts the word for a refusal as a column.
-fn add_refusal(refusal: u8, output: &mut [u8], place: usize)
-    requires { (0 < refusal) × (place + 11 ≤ length output.old) }
-    ensures { Added (column (refusal_text refusal)) output.old place (place + 11) output.new }
+// The column of what the phone sealed: the number of the frame, or why there is none.
+#[tactic(auto, unfolding(crate::specs::Columns::phone_text))]
+pub(crate) fn sealed(answer: Result<Sealed, Refusal>) -> [u8; WIDTH]
+    ensures { result ≡ Columns·column (phone_text (refusal_of answer) (number_in answer)) }
 {
-    add_row_of(
-        b"1 key     2 range   3 size    4 room    5 length  6 version 7 spare   8 other   9 start   10 end    11 repeat 12 state  13 reserve",
-        refusal,
-        output,
-        place,
-    );
-}
-
-// Puts the column of what the phone sealed: the number of the frame, or why there is none.
-fn add_sealed(refusal: u8, number: u32, output: &mut [u8])
-    requires { 11 ≤ length output.old }
-    ensures { Added (column (phone_text refusal number)) output.old 0 11 output.new }
-{
-    if refusal == 0 {
-        add_number(number, output, 0);
-        return;
+    match answer {
+        Ok(sealed) => numbered(sealed.number),
+        Err(refusal) => column(word_of(refusal)),
     }
-    add_refusal(refusal, output, 0);
 }
 
-// Puts the phone's columns where it was to seal: the frame's number, or why there is none; and its reservation.
-pub(crate) fn add_sealing(refusal: u8, number: u32, reserved: u32, output: &mut [u8])
-    requires { 22 ≤ length output.old }
-    ensures { Added (phone_columns (phone_text refusal number) reserved) output.old 0 22 output.new }
+// The column of an answer that hands out nothing.
+#[tactic(auto, unfolding(crate::specs::Columns::answer_text))]
+pub(crate) fn answered(answer: Result<(), Refusal>) -> [u8; WIDTH]
+    ensures { result ≡ Columns·column (answer_text (refusal_of answer)) }
 {
-    add_sealed(refusal, number, output);
-    add_number(reserved, output, WIDTH);
+    match answer {
+        Ok(()) => column(b"ok"),
+        Err(refusal) => column(word_of(refusal)),
+    }
 }
 
-// Puts the phone's columns where it was stored, told or restarted: its answer, and its reservation.
-pub(crate) fn add_done(refusal: u8, reserved: u32, output: &mut [u8])
-    requires { 22 ≤ length output.old }
-    ensures { Added (phone_columns (answer_text refusal) reserved) output.old 0 22 output.new }
-{
-    add_answer(refusal, output, 0);
-    add_number(reserved, output, WIDTH);
-}
-
-// Puts the phone's columns where it was asked for nothing: a sign, and its reservation.
-pub(crate) fn add_sign(sign: &[u8], reserved: u32, output: &mut [u8])
-    requires { (length sign.now ≤ 11) × (22 ≤ length output.old) }
-    ensures { Added (phone_columns sign.now reserved) output.old 0 22 output.new }
-{
-    add_column(sign, output, 0);
-    add_number(reserved, output, WIDTH);
-}
-
-// The row of a reason for a bad line.
-fn row_of(why: Why) -> usize
-    ensures { result ≡ why_row why }
+// The word for why a line is bad.
+pub(crate) fn word_for(why: Why) -> &'static [u8; 10]
+    ensures { result.now ≡ why_text why }
 {
     match why {
-        Why::Long => 0,
-        Why::Empty => 1,
-        Why::Octet => 2,
-        Why::Command => 3,
-        Why::Count => 4,
-        Why::Place => 5,
-        Why::Hex => 6,
+        Why::Long => b"long      ",
+        Why::Empty => b"empty     ",
+        Why::Octet => b"octet     ",
+        Why::Command => b"command   ",
+        Why::Count => b"count     ",
+        Why::Place => b"place     ",
+        Why::Hex => b"hex       ",
     }
 }
 
-// Puts the box's column for a bad line.
-pub(crate) fn add_why(why: Why, output: &mut [u8])
-    requires { 33 ≤ length output.old }
-    ensures { Added (column (why_text why)) output.old 22 33 output.new }
-{
-    add_row(
-        b"long      empty     octet     command   count     place     hex       ",
-        ROW * row_of(why),
-        output,
-        BOX,
-    );
-}
-
-// Puts the column of the number that the cell worked out, where it is given.
-fn add_given(given: bool, number: u32, output: &mut [u8], place: usize)
-    requires { place + 11 ≤ length output.old }
-    ensures { Added (column (number_text given number)) output.old place (place + 11) output.new }
-{
-    if given {
-        add_number(number, output, place);
-        return;
-    }
-    add_column(b"-", output, place);
-}
-
-// Puts the column of the cell's answer.
-fn add_answer(refusal: u8, output: &mut [u8], place: usize)
-    requires { place + 11 ≤ length output.old }
-    ensures { Added (column (answer_text refusal)) output.old place (place + 11) output.new }
-{
-    if refusal == 0 {
-        add_column(b"ok", output, place);
-        return;
-    }
-    add_refusal(refusal, output, place);
-}
+// ---- a line
 
 // An octet as it is shown.
+#[tactic(auto, unfolding(crate::specs::Columns::shown, lines::specs::Digits::within))]
 fn shown(octet: u8) -> u8
     ensures { result ≡ Columns·shown octet }
 {
-    if octet < 32 {
-        return b'.';
+    match octet {
+        b' '..=b'~' => octet,
+        _ => b'.',
     }
-    if 126 < octet {
-        return b'.';
-    }
-    octet
 }
 
-// Puts a text as it is shown, and answers the place after it.
-fn add_shown(text: &[u8], output: &mut [u8], place: usize) -> usize
-    requires { place + length text.now ≤ length output.old }
-    ensures { Added (shown_text text.now) output.old place result output.new }
+// Puts the text handed out as it is shown, or a hyphen where none is, and the line feed. Answers the place after them.
+fn add_text(text: &[u8], output: &mut [u8; ROOM]) -> usize
+    requires { length text.now ≤ 46 }
+    ensures { Added (text_column text.now) output.old 66 result output.new }
 {
-    let mut i = 0;
-    while i < text.len() {
-        output[place + i] = shown(text[i]);
-        i += 1;
+    if text.is_empty() {
+        output[TEXT] = b'-';
+        output[TEXT + 1] = b'\n';
+        return TEXT + 2;
     }
-    place + i
-}
-
-// Puts the text handed out, or a hyphen where none is, and the line feed.
-fn add_text(text: &[u8], output: &mut [u8], place: usize) -> usize
-    requires { (length text.now ≤ 46) × (place + 47 ≤ length output.old) }
-    ensures { Added (text_column text.now) output.old place result output.new }
-{
-    if text.len() == 0 {
-        add(b"-\n", output, place);
-        return place + 2;
+    for (place, octet) in text.iter().enumerate() {
+        output[TEXT + place] = shown(*octet);
     }
-    let end = add_shown(text, output, place);
+    let end = TEXT + text.len();
     output[end] = b'\n';
     end + 1
 }
 
-// Puts the columns of the cell where it is handed octets, and answers where the line ends.
-pub(crate) fn add_cell(
-    given: bool,
-    refusal: u8,
-    number: u32,
-    next: u32,
-    text: &[u8],
-    output: &mut [u8],
-) -> usize
-    requires { (length text.now ≤ 46) × (113 ≤ length output.old) }
-    ensures { Added (cell_columns given refusal number next text.now) output.old 33 result output.new }
+// Puts a line at the front of the output, and answers how many octets it has.
+pub(crate) fn show(stage: &Stage, row: Row, text: &[u8], output: &mut [u8; ROOM]) -> usize
+    requires { length text.now ≤ 46 }
+    ensures { AtFront (line_of stage.now row text.now) output.old result output.new }
 {
-    add_given(given, number, output, 33);
-    add_answer(refusal, output, 44);
-    add_number(next, output, 55);
-    add_text(text, output, 66)
+    let Row {
+        phone,
+        done,
+        number,
+        answer,
+    } = row;
+    let reserved = numbered(stage.phone.reserved());
+    let next = numbered(stage.cell.next());
+    let columns = [phone, reserved, done, number, answer, next];
+    let shown = columns.as_flattened();
+    output[..TEXT].copy_from_slice(shown);
+    add_text(text, output)
 }
 
-// Puts the columns of the cell where it is handed nothing, and answers where the line ends.
-pub(crate) fn add_silence(next: u32, output: &mut [u8]) -> usize
-    requires { 113 ≤ length output.old }
-    ensures { Added (silent_columns next) output.old 33 result output.new }
+// Puts a line on which the cell is asked for nothing.
+pub(crate) fn show_silent(
+    stage: &Stage,
+    phone: [u8; WIDTH],
+    done: [u8; WIDTH],
+    output: &mut [u8; ROOM],
+) -> usize
+    ensures { AtFront (silent_line stage.now phone done) output.old result output.new }
 {
-    add(b"-          -          ", output, 33);
-    add_number(next, output, 55);
-    add(b"-\n", output, 66);
-    68
+    let row = Row {
+        phone,
+        done,
+        number: NONE,
+        answer: NONE,
+    };
+    show(stage, row, b"", output)
 }

@@ -54,3 +54,12 @@ f_odd FI keys_of i x odd = rw (eq-eqb (i % 2) 1 odd)
 pub f_even : (FI : ℕ → ℕ → ℕ) (keys_of : ℕ → Keys) (i x : ℕ) → i % 2 ≡ 0 → f FI keys_of i x ≡ fl (keys_of i).kl1 (keys_of i).kl2 (fo FI (keys_of i) x)
 unfolding f
 f_even FI keys_of i x even = rw (ne_eqb (i % 2) 1 (omega arith))
+
+-- so an odd round is as round 1 with its keys, and an even one as round 2
+pub round_odd : (FI : ℕ → ℕ → ℕ) (keys_of : ℕ → Keys) (i x : ℕ) → i % 2 ≡ 1 → round FI (λ _. keys_of i) 1 x ≡ round FI keys_of i x
+unfolding round f
+round_odd FI keys_of i x odd = rw (eq-eqb (i % 2) 1 odd)
+
+pub round_even : (FI : ℕ → ℕ → ℕ) (keys_of : ℕ → Keys) (i x : ℕ) → i % 2 ≡ 0 → round FI (λ _. keys_of i) 2 x ≡ round FI keys_of i x
+unfolding round f
+round_even FI keys_of i x even = rw (ne_eqb (i % 2) 1 (omega arith))

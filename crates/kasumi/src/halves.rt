@@ -3,6 +3,8 @@ ghost use Rattle.std.specs.Prelude.{◌≡◌};
 ghost use Rattle.std.specs.Int.Bits.{bit_xor};
 ghost use Rattle.kasumi.specs.Halves.{bits32, bits64};
 
+use std::ops::BitXor;
+
 // 32 bits as two words.
 #[derive(Clone, Copy)]
 pub(crate) struct Half {
@@ -17,35 +19,43 @@ pub(crate) struct Block {
     pub right: Half,
 }
 
-pub(crate) fn split(block: u64) -> Block
-    ensures { bits64 result ≡ block }
-{
-    Block {
-        left: Half {
-            l: (block >> 48) as u16,
-            r: ((block >> 32) % 0x10000) as u16,
-        },
-        right: Half {
-            l: ((block >> 16) % 0x10000) as u16,
-            r: (block % 0x10000) as u16,
-        },
+impl From<u64> for Block {
+    ghost from_gives = { λ block x. bits64 x ≡ block };
+
+    fn from(block: u64) -> Block {
+        Block {
+            left: Half {
+                l: (block >> 48) as u16,
+                r: ((block >> 32) % 0x10000) as u16,
+            },
+            right: Half {
+                l: ((block >> 16) % 0x10000) as u16,
+                r: (block % 0x10000) as u16,
+            },
+        }
     }
 }
 
-pub(crate) fn joined(x: Block) -> u64
-    ensures { result ≡ bits64 x }
-{
-    ((x.left.l as u64) << 48)
-        + ((x.left.r as u64) << 32)
-        + ((x.right.l as u64) << 16)
-        + x.right.r as u64
+impl From<Block> for u64 {
+    ghost from_gives = { λ x block. block ≡ bits64 x };
+
+    fn from(x: Block) -> u64 {
+        ((x.left.l as u64) << 48)
+            + ((x.left.r as u64) << 32)
+            + ((x.right.l as u64) << 16)
+            + x.right.r as u64
+    }
 }
 
-pub(crate) fn xor(x: Half, y: Half) -> Half
-    ensures { bits32 result ≡ bit_xor (bits32 x) (bits32 y) }
-{
-    Half {
-        l: x.l ^ y.l,
-        r: x.r ^ y.r,
+impl BitXor for Half {
+    type Output = Half;
+
+    ghost bitxor_gives = { λ x y both. bits32 both ≡ bit_xor (bits32 x) (bits32 y) };
+
+    fn bitxor(self, other: Half) -> Half {
+        Half {
+            l: self.l ^ other.l,
+            r: self.r ^ other.r,
+        }
     }
 }

@@ -5,73 +5,42 @@ mod halves;
 mod rounds;
 mod schedule;
 
-ghost use Rattle.std.specs.Prelude.{◌≡◌, [], ◌∷◌};
+ghost use Rattle.std.specs.Prelude.{◌≡◌, [], ◌∷◌, replicate};
+ghost use Rattle.std.specs.Result.{result_unwrap_or};
+ghost use Rattle.refusals.specs.Number.{refusal_of};
 ghost use Rattle.refusals.specs.Call.{Answered};
-ghost use Rattle.octets.specs.Octets.{is_whole_key};
 ghost use Rattle.kasumi.specs.Kasumi.{kasumi_call};
 ghost use Rattle.kasumi.specs.Lent.{round_keys_call, ciphered_by};
 
-// The answer of the cipher: the refusal number, or 0 and the ciphered block.
-#[derive(Clone, Copy)]
-pub struct Ciphered {
-    pub refusal: u8,
-    pub block: u64,
-}
+use refusals::Refusal;
+use rounds::Prepared;
 
-// The keys of all rounds, eight words a round, or 64 zeros where the key is refused.
-#[derive(Clone, Copy)]
-pub struct RoundKeys {
-    pub refusal: u8,
-    pub words: [u16; 64],
-}
-
-// A key of KASUMI has 16 octets.
-fn is_whole_key(key: &[u8]) -> bool
-    ensures { result ≡ is_whole_key key.now }
+// The keys of all rounds, eight words a round, to be lent to `cipher_block`, from a key of 16 octets.
+pub fn round_keys(key: &[u8]) -> Result<[u16; 64], Refusal>
+    ensures { Answered (round_keys_call key.now) (refusal_of result) [] (result_unwrap_or result (replicate 64 0)) }
 {
-    key.len() == 16
-}
-
-// The keys of all rounds, to be lent to `cipher_block`, from a key of 16 octets.
-pub fn round_keys(key: &[u8]) -> RoundKeys
-    ensures { Answered (round_keys_call key.now) result.refusal [] result.words }
-{
-    if !is_whole_key(key) {
-        return RoundKeys {
-            refusal: refusals::KEY,
-            words: [0u16; 64],
-        };
-    }
-    RoundKeys {
-        refusal: 0,
-        words: schedule::keys_of_rounds(key),
-    }
+    let Ok(key) = <&[u8; 16]>::try_from(key) else {
+        return Err(Refusal::Key);
+    };
+    Ok(schedule::keys_of_rounds(key))
 }
 
 // KASUMI of a block, by the table and the round keys that are lent to it.
 pub fn cipher_block(table: &[u16; 640], words: &[u16; 64], block: u64) -> u64
     ensures { result ≡ ciphered_by table.now words.now block }
 {
-    let after2 = rounds::two_rounds(table, words, 1, block);
-    let after4 = rounds::two_rounds(table, words, 3, after2);
-    let after6 = rounds::two_rounds(table, words, 5, after4);
-    rounds::two_rounds(table, words, 7, after6)
+    let prepared = Prepared { table, words };
+    let after2 = prepared.two_rounds(1, block);
+    let after4 = prepared.two_rounds(3, after2);
+    let after6 = prepared.two_rounds(5, after4);
+    prepared.two_rounds(7, after6)
 }
 
 // KASUMI of a block under a key of 16 octets.
-pub fn kasumi(key: &[u8], block: u64) -> Ciphered
-    ensures { Answered (kasumi_call key.now block) result.refusal (result.block ∷ []) tt }
+pub fn kasumi(key: &[u8], block: u64) -> Result<u64, Refusal>
+    ensures { Answered (kasumi_call key.now block) (refusal_of result) (result_unwrap_or result 0 ∷ []) tt }
 {
-    if !is_whole_key(key) {
-        return Ciphered {
-            refusal: refusals::KEY,
-            block: 0,
-        };
-    }
+    let words = round_keys(key)?;
     let table = sboxes::fi_table();
-    let words = schedule::keys_of_rounds(key);
-    Ciphered {
-        refusal: 0,
-        block: cipher_block(&table, &words, block),
-    }
+    Ok(cipher_block(&table, &words, block))
 }

@@ -6,7 +6,13 @@ use Rattle.octets.specs.Bits.{size, stored}
 use Rattle.kgcore.specs.declared.Inputs.{Inputs}
 use Rattle.kgcore.specs.Kgcore.{key_bit}
 use Rattle.keystreams.specs.Key.{is_key, prepared}
-use Rattle.keystreams.specs.declared.kinds.Kind.{Kind}
+
+-- the fixed inputs of a kind
+pub record Kind : Type 0 where
+  pub ca : ℕ
+  pub cb : ℕ
+  pub ce : ℕ
+  pub cl : ℕ
 
 -- the fixed inputs of each kind; CB and CE are zero. GSM: CA 0F, CL 228
 unfoldable pub gsm_kind : Kind

@@ -1,48 +1,111 @@
 // The fixed inputs of each algorithm, named once (document 01; document 004, table B.1).
+ghost use Rattle.std.specs.Prelude.{◌≡◌, ℕ, ◌<◌, ◌≤◌};
+ghost use Rattle.std.proofs.Common.{rules};
+ghost use Rattle.kgcore.specs.declared.Inputs.{Inputs};
 
-#[derive(Clone, Copy)]
-pub(crate) struct Gsm {}
+use kgcore::Inputs;
 
-impl Gsm {
-    pub const CA: u8 = 0x0F;
+// The inputs of KGCORE that an algorithm fixes.
+pub(crate) trait Fixed {
+    ghost CA: { ℕ };
 
-    pub const CB: u8 = 0;
+    ghost CB: { ℕ };
 
-    pub const CE: u16 = 0;
+    ghost CE: { ℕ };
 
-    pub const CL: u32 = 228;
+    const CA: u8;
+
+    const CB: u8;
+
+    const CE: u16;
+}
+
+// The inputs of KGCORE, of which a caller sets CC and CD.
+pub(crate) fn inputs<K: Fixed>(cc: u32, cd: u8) -> Inputs
+    ensures { let inputs : Inputs = record { ca = K.CA; cb = K.CB; cc = cc; cd = cd; ce = K.CE } in result ≡ inputs }
+{
+    Inputs {
+        ca: K::CA,
+        cb: K::CB,
+        cc,
+        cd,
+        ce: K::CE,
+    }
+}
+
+// A kind of A5/4, which fixes CL too.
+pub(crate) trait Kind: Fixed {
+    ghost CL: { ℕ };
+
+    ghost fits: { (Self.CB ≤ 31) × ((0 < CL) × (CL ≤ 696)) };
+
+    const CL: u32;
 }
 
 #[derive(Clone, Copy)]
-pub(crate) struct Ecsd {}
+pub(crate) struct Gsm;
 
-impl Ecsd {
-    pub const CA: u8 = 0xF0;
+impl Fixed for Gsm {
+    ghost CA = { 0x0F };
 
-    pub const CB: u8 = 0;
+    ghost CB = { 0 };
 
-    pub const CE: u16 = 0;
+    ghost CE = { 0 };
 
-    pub const CL: u32 = 696;
+    const CA: u8 = 0x0F;
+
+    const CB: u8 = 0;
+
+    const CE: u16 = 0;
+}
+
+impl Kind for Gsm {
+    ghost CL = { 228 };
+
+    ghost fits = { Prim.search rules };
+
+    const CL: u32 = 228;
+}
+
+#[derive(Clone, Copy)]
+pub(crate) struct Ecsd;
+
+impl Fixed for Ecsd {
+    ghost CA = { 0xF0 };
+
+    ghost CB = { 0 };
+
+    ghost CE = { 0 };
+
+    const CA: u8 = 0xF0;
+
+    const CB: u8 = 0;
+
+    const CE: u16 = 0;
+}
+
+impl Kind for Ecsd {
+    ghost CL = { 696 };
+
+    ghost fits = { Prim.search rules };
+
+    const CL: u32 = 696;
 }
 
 // CL is eight times the octets asked for, so it is no constant here.
 #[derive(Clone, Copy)]
-pub(crate) struct Gea4 {}
+pub(crate) struct Gea4;
 
-impl Gea4 {
-    pub const CA: u8 = 0xFF;
+impl Fixed for Gea4 {
+    ghost CA = { 0xFF };
 
-    pub const CB: u8 = 0;
+    ghost CB = { 0 };
 
-    pub const CE: u16 = 0;
-}
+    ghost CE = { 0 };
 
-// The fixed inputs of a kind of A5/4, as one value.
-#[derive(Clone, Copy)]
-pub(crate) struct Kind {
-    pub ca: u8,
-    pub cb: u8,
-    pub ce: u16,
-    pub cl: u32,
+    const CA: u8 = 0xFF;
+
+    const CB: u8 = 0;
+
+    const CE: u16 = 0;
 }

@@ -2,12 +2,13 @@
 #![tactic(auto)]
 
 ghost use Rattle.std.specs.Prelude.{◌≡◌, [], ◌++◌, ◌≤◌, ◌<◌, min, length, drop};
-ghost use Rattle.std.specs.Int.Bits.{bit_xor};
 ghost use Rattle.octets.specs.Bits.{bit_at, octet, listed, size as Bits·size, stored};
-ghost use Rattle.kasumi.specs.Lent.{round_words, ciphered_by};
+ghost use Rattle.refusals.specs.Number.{refusal_of};
 ghost use Rattle.refusals.specs.Call.{Answered};
 ghost use Rattle.kgcore.specs.Kgcore.{kgcore_call, key_bit};
 ghost use Rattle.kgcore.specs.Kgcore.{register as Kgcore·register, modified as Kgcore·modified, blocks as Kgcore·blocks};
+
+use refusals::Refusal;
 
 // The most bits that one call may ask for: 2^19 (document 01, "On the bench, and off it").
 const MOST_BITS: u32 = 524_288;
@@ -23,6 +24,7 @@ pub struct Inputs {
 }
 
 // The register A at first, each input at its place: CC, CB, CD, two zero bits, CA, CE (4.4).
+#[tactic(auto, unfolding(crate::specs::Kgcore::register))]
 fn register(inputs: Inputs) -> u64
     requires { (inputs.cb ≤ 31) × (inputs.cd ≤ 1) }
     ensures { result ≡ Kgcore·register inputs }
@@ -34,49 +36,25 @@ fn register(inputs: Inputs) -> u64
         + inputs.ce as u64
 }
 
-// The key under which the register is ciphered: each octet xor the key modifier KM (4.4).
-fn modified(key: &[u8]) -> [u8; 16]
-    requires { length key.now ≡ 16 }
+// The key under which the register is ciphered: each octet xor the key modifier KM (4.4). f9 has a modifier of its own, over its own definition; one
+// function for both would be a public call more.
+#[tactic(auto, unfolding(crate::specs::Kgcore::modified))]
+fn modified(key: &[u8; 16]) -> [u8; 16]
     ensures { result ≡ Kgcore·modified key.now }
 {
-    let mut changed = [0u8; 16];
-    let mut i = 0;
-    while i < 16 {
-        changed[i] = key[i] ^ 0x55;
-        i += 1;
+    let mut changed = *key;
+    for octet in changed.iter_mut() {
+        *octet ^= 0x55;
     }
     changed
 }
 
-// The round keys of a key of 16 octets, which is never refused.
-fn round_keys(key: &[u8]) -> [u16; 64]
-    requires { length key.now ≡ 16 }
-    ensures { result ≡ round_words key.now 8 }
-{
-    let keys = kasumi::round_keys(key);
-    keys.words
-}
-
-// The register ciphered under the round keys that are lent: those of the modified key make of it the register A that the blocks use.
-fn register_a(inputs: Inputs, table: &[u16; 640], words: &[u16; 64]) -> u64
-    requires { (inputs.cb ≤ 31) × (inputs.cd ≤ 1) }
-    ensures { result ≡ ciphered_by table.now words.now (Kgcore·register inputs) }
-{
-    kasumi::cipher_block(table, words, register(inputs))
-}
-
 // How many blocks CL bits need (4.5).
+#[tactic(auto, unfolding(crate::specs::Kgcore::blocks))]
 fn blocks(cl: u32) -> usize
     ensures { result ≡ Kgcore·blocks cl }
 {
-    (cl as usize + 63) / 64
-}
-
-// The block after block n: its counter is n (4.5).
-fn next_block(table: &[u16; 640], words: &[u16; 64], a: u64, n: u64, block: u64) -> u64
-    ensures { result ≡ ciphered_by table.now words.now (bit_xor (bit_xor a n) block) }
-{
-    kasumi::cipher_block(table, words, a ^ n ^ block)
+    cl.div_ceil(64) as usize
 }
 
 // Puts the octets of a block to the front of the output, as far as it goes.
@@ -84,54 +62,50 @@ fn put(block: u64, output: &mut [u8])
     ensures { let n = min 8 (length output.old) in
         output.new ≡ listed (octet (bit_at 64 block)) n ++ drop n output.old }
 {
-    let mut j = 0;
-    while j < 8 && j < output.len() {
-        output[j] = ((block >> (56 - 8 * j)) % 256) as u8;
-        j += 1;
-    }
+    let n = output.len().min(8);
+    output[..n].copy_from_slice(&block.to_be_bytes()[..n]);
 }
 
 // The first CL bits of the blocks, at the front of an output that has room for them. The table and the round keys are prepared once for all blocks.
-fn generate(inputs: Inputs, key: &[u8], cl: u32, output: &mut [u8])
-    requires key_len { (length key.now ≡ 16) × ((inputs.cb ≤ 31) × (inputs.cd ≤ 1)) }
-    requires cl_nonzero { (0 < cl) × (Bits·size cl ≤ length output.old) }
+#[tactic(auto, unfolding(crate::specs::Kgcore::blocks, octets::specs::Bits::size))]
+fn generate(inputs: Inputs, key: &[u8; 16], cl: u32, output: &mut [u8])
+    requires in_range { (inputs.cb ≤ 31) × (inputs.cd ≤ 1) }
+    requires some { 0 < cl }
+    requires room { Bits·size cl ≤ length output.old }
     ensures { output.new ≡ stored (key_bit key.now inputs) 0 cl ++ drop (Bits·size cl) output.old }
 {
     let size = octets::size(cl);
     let table = sboxes::fi_table();
-    let changed = modified(key);
-    let first = round_keys(&changed);
-    let words = round_keys(key);
-    let a = register_a(inputs, &table, &first);
-    let count = blocks(cl);
+    let first = kasumi::round_keys(&modified(key)).unwrap();
+    let words = kasumi::round_keys(key).unwrap();
+    let a = kasumi::cipher_block(&table, &first, register(inputs));
     let mut block = 0;
-    let mut n = 0;
-    while n < count {
-        block = next_block(&table, &words, a, n as u64, block);
-        let at = 8 * n;
-        put(block, &mut output[at..size]);
-        n += 1;
+    // By index: a proof knows nothing of what the pieces of `chunks_mut` end as.
+    for n in 0..blocks(cl) {
+        block = kasumi::cipher_block(&table, &words, a ^ n as u64 ^ block);
+        put(block, &mut output[8 * n..size]);
     }
     let last = size - 1;
     output[last] = octets::first_bits(output[last], cl as usize - 8 * last);
 }
 
 // The first CL bits of the keystream, into the output.
-pub fn kgcore(inputs: Inputs, key: &[u8], cl: u32, output: &mut [u8]) -> u8
-    ensures { Answered (kgcore_call inputs key.now cl output.old) result [] output.new }
+#[tactic(auto, using(octets::proofs::Stored::front_stored), unfolding(refusals::specs::Refusal::first, crate::specs::Kgcore::kgcore_order))]
+pub fn kgcore(inputs: Inputs, key: &[u8], cl: u32, output: &mut [u8]) -> Result<(), Refusal>
+    ensures { Answered (kgcore_call inputs key.now cl output.old) (refusal_of result) [] output.new }
 {
-    if key.len() != 16 {
-        return refusals::KEY;
-    }
+    let Ok(key) = <&[u8; 16]>::try_from(key) else {
+        return Err(Refusal::Key);
+    };
     if 31 < inputs.cb || 1 < inputs.cd {
-        return refusals::RANGE;
+        return Err(Refusal::Range);
     }
     if cl == 0 || MOST_BITS < cl {
-        return refusals::SIZE;
+        return Err(Refusal::Size);
     }
     if output.len() < octets::size(cl) {
-        return refusals::ROOM;
+        return Err(Refusal::Room);
     }
     generate(inputs, key, cl, output);
-    0
+    Ok(())
 }

@@ -2,15 +2,20 @@
 -- Assumes nothing.
 use Prim.Native.Nat.{ℕ, ◌≤◌}
 use native.Mathlib.Omega.{arith}
-use mathlib.Core.Path.{◌≡◌, sym, ◌∙◌}
+use mathlib.Core.Path.{◌≡◌, sym, subst, ◌∙◌}
 use mathlib.Core.Bool.{true, false}
 use mathlib.Core.List.{List, [], ◌∷◌}
 use borrow.Author.Tests.{eqb-true, eqb-false}
 use lib.Dec.{eqb}
 use lib.ListN.{length}
+use Rattle.std.specs.Prelude.{Result, Ok, IsOk}
+use Rattle.std.specs.Result.{result_unwrap_or}
+use Rattle.refusals.specs.declared.Refusal.{Refusal}
 use Rattle.refusals.specs.Refusal.{Row, first}
-use Rattle.refusals.specs.Call.{Answered}
+use Rattle.refusals.specs.Call.{Call, Answered}
+use Rattle.refusals.specs.Number.{refusal_of}
 use Rattle.refusals.proofs.Calls.{answered_done, refused_zeros, head_is}
+use Rattle.refusals.proofs.Number.{is_ok}
 use Rattle.refusals.proofs.Tests.{by-test}
 use Rattle.refusals.proofs.Within.{front_within, none_within}
 use Rattle.lines.specs.Digits.{is_number, value_of, digits_order, digits_call}
@@ -19,6 +24,11 @@ use Rattle.lines.proofs.Text.{room_enough, hex_bad, hex_good}
 
 two_not_zero : ◌≡◌ {A = ℕ} 2 0 → ⊥
 two_not_zero e = omega arith
+
+-- an answer that is unwrapped is one without a refusal
+pub unwrapped : {Lent : Type 0} {call : Call Lent} {answer : Result ℕ Refusal} {number : ℕ} {lent : Lent}
+    → Answered call (refusal_of answer) (result_unwrap_or answer 0 ∷ []) lent → answer ≡ Ok number → Answered call 0 (number ∷ []) lent
+unwrapped {call = call} {lent = lent} answered is = subst (λ (r : Result ℕ Refusal). Answered call (refusal_of r) (result_unwrap_or r 0 ∷ []) lent) is answered
 
 -- ---- reading a number: `decimal` and `hexadecimal`
 
@@ -40,9 +50,6 @@ module _ (base most : ℕ) (text : List ℕ) {refusal value : ℕ} (answered : A
     by-test (is_number base most text) _ (λ number. number) (λ none. absurd (two_not_zero (sym (number_withheld none) ∙ done))),
     head_is (answered_done (digits_call base most text) answered (sym answered.refusal_is ∙ done)).1,
   )
-
-  pub number_refused : (refusal ≡ 0 → ⊥) → value ≡ 0
-  number_refused refused = head_is (refused_zeros (digits_call base most text) answered refused)
 
 -- ---- putting a text: `octets_of_hex`, `hex_of_octets`, `decimal_of_number`, `put_text`
 
@@ -71,6 +78,11 @@ pub room_done : (room : ℕ) (text before : List ℕ) {refusal count : ℕ} {aft
 room_done room text before answered enough =
     let done = answered.refusal_is ∙ room_enough room before enough in
     (done, put_done (room_order room before) text before answered done)
+
+-- so the answer is there to be unwrapped
+pub room_ok : (room : ℕ) (text before : List ℕ) (answer : Result ℕ Refusal) {after : List ℕ}
+    → Answered (puts_text (room_order room before) text before) (refusal_of answer) (result_unwrap_or answer 0 ∷ []) after → room ≤ length before → IsOk answer
+room_ok room text before answer answered enough = is_ok answer (room_done room text before answered enough).0
 
 -- pairs of hex digits are taken where there is room for their octets, and nothing else is
 module _ (text before : List ℕ) {refusal count : ℕ} {after : List ℕ} (answered : Answered (octets_of_hex_call text before) refusal (count ∷ []) after) where

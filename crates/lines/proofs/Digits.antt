@@ -4,14 +4,18 @@ use Prim.Native.Nat.{ℕ, zero, suc, ◌+◌, ◌-◌, ◌*◌, ◌^◌, ◌≤�
 use native.Mathlib.Nat.{add-zero, zero-add, not-suc-le-zero, le_of_suc-le-suc, pow-zero, pow-suc, pow-le-pow_right, lt_of_lt_of_le, le_trans}
 use native.Mathlib.Numerals.{add-one}
 use native.Mathlib.Omega.{arith}
-use mathlib.Core.Path.{◌≡◌, ap, subst, ◌∙◌}
-use mathlib.Core.Bool.{true, false, ◌&&◌, and-eq-true_iff}
+use mathlib.Core.Path.{◌≡◌, refl, sym, ap, subst, ◌∙◌}
+use mathlib.Core.Bool.{Bool, true, false, cond, and-eq-true_iff}
 use mathlib.Core.List.{List, [], ◌∷◌}
-use borrow.Author.Tests.{le-leb, lt-leb, lt-ltb, le-ltb, leb-true, ltb-true}
+use borrow.Author.Tests.{le-leb, lt-leb, lt-ltb, le-ltb, leb-true, ltb-true, ltb-false}
 use lib.Arith.{digits_lt}
 use lib.Dec.{leb, ltb, lit<}
 use lib.ListN.{length, get_or, drop}
 use lib.Seq.{drop-cons, drop-length}
+use Rattle.std.specs.Prelude.{Option, Some, None}
+use Rattle.std.specs.Option.{SomeIff, unwrap_or}
+use Rattle.std.specs.Char.{digit_value as char_digit}
+use Rattle.refusals.proofs.Tests.{by-test}
 use Rattle.lines.specs.Digits.{within, digit_value, all_digits, value_from, value_of, is_number}
 
 -- ---- a test of a range
@@ -55,29 +59,32 @@ pub no_digit : (x : ℕ) → within 48 57 x ≡ false → within 65 70 x ≡ fal
 unfolding digit_value
 no_digit x no-decimal no-capital no-small = rw (no-decimal, no-capital, no-small)
 
+-- the digit that `to_digit` finds at 16, in the same ranges
+module _ (x : ℕ) where
+  by_order : (k : ℕ) (P : Type 0) → (x < k → P) → (k ≤ x → P) → P
+  by_order k P below from = by-test (ltb x k) P (λ is. below (ltb-true x k is)) (λ is. from (ltb-false x k is))
+
+  found : cond (ltb (char_digit x) 16) (char_digit x) 16 ≡ digit_value x
+  found =
+      by_order 48 _ (λ a. rw (lt-ltb x 48 a) (no_digit x (within_below 48 57 x (omega arith)) (within_below 65 70 x (omega arith)) (within_below 97 102 x (omega arith))))
+      (λ a. by_order 58 _ (λ b. rw (le-ltb x 48 a, lt-ltb x 58 b, lt-ltb (x - 48) 16 (omega arith)) (decimal_digit x _ a (omega arith) refl))
+      (λ b. by_order 65 _ (λ d. rw (le-ltb x 48 a, le-ltb x 58 b, lt-ltb x 65 d) (no_digit x (within_above 48 57 x (omega arith) (omega arith)) (within_below 65 70 x (omega arith)) (within_below 97 102 x (omega arith))))
+      (λ d. by_order 71 _ (λ e. rw (le-ltb x 48 a, le-ltb x 58 b, le-ltb x 65 d, lt-ltb x 91 (omega arith), lt-ltb (x - 55) 16 (omega arith)) (capital_digit x _ d (omega arith) refl))
+      (λ e. by_order 91 _ (λ f. rw (le-ltb x 48 a, le-ltb x 58 b, le-ltb x 65 d, lt-ltb x 91 f, le-ltb (x - 55) 16 (omega arith)) (no_digit x (within_above 48 57 x (omega arith) (omega arith)) (within_above 65 70 x (omega arith) (omega arith)) (within_below 97 102 x (omega arith))))
+      (λ f. by_order 97 _ (λ g. rw (le-ltb x 48 a, le-ltb x 58 b, le-ltb x 65 d, le-ltb x 91 f, lt-ltb x 97 g) (no_digit x (within_above 48 57 x (omega arith) (omega arith)) (within_above 65 70 x (omega arith) (omega arith)) (within_below 97 102 x (omega arith))))
+      (λ g. by_order 103 _ (λ h. rw (le-ltb x 48 a, le-ltb x 58 b, le-ltb x 65 d, le-ltb x 91 f, le-ltb x 97 g, lt-ltb x 123 (omega arith), lt-ltb (x - 87) 16 (omega arith)) (small_digit x _ g (omega arith) refl))
+      (λ h. by_order 123 _ (λ i. rw (le-ltb x 48 a, le-ltb x 58 b, le-ltb x 65 d, le-ltb x 91 f, le-ltb x 97 g, lt-ltb x 123 i, le-ltb (x - 87) 16 (omega arith)) (no_digit x (within_above 48 57 x (omega arith) (omega arith)) (within_above 65 70 x (omega arith) (omega arith)) (within_above 97 102 x (omega arith) (omega arith))))
+      (λ i. rw (le-ltb x 48 a, le-ltb x 58 b, le-ltb x 65 d, le-ltb x 91 f, le-ltb x 97 g, le-ltb x 123 i) (no_digit x (within_above 48 57 x (omega arith) (omega arith)) (within_above 65 70 x (omega arith) (omega arith)) (within_above 97 102 x (omega arith) (omega arith)))))))))))
+
+  pub digit_found : (digit : Option ℕ) → SomeIff digit (char_digit x < 16) (char_digit x) → unwrap_or digit 16 ≡ digit_value x
+  digit_found None none = ap (λ (test : Bool). cond test (char_digit x) 16) (sym (by-test (ltb (char_digit x) 16) (ltb (char_digit x) 16 ≡ false) (λ is. absurd (none (ltb-true _ 16 is))) (λ is. is))) ∙ found
+  digit_found (Some value) some = some.1 ∙ ap (λ (test : Bool). cond test (char_digit x) 16) (sym (lt-ltb (char_digit x) 16 some.0)) ∙ found
+
 -- ---- one digit more
 
 -- a text from place i on is its octet there and the text from the next place on
 pub from_place : (text : List ℕ) (i : ℕ) → i < length text → drop i text ≡ get_or text i 0 ∷ drop (i + 1) text
 from_place text i inside = rw (add-one i) (drop-cons text i 0 inside)
-
-digits_step : (base : ℕ) (text : List ℕ) (i : ℕ) → i < length text
-    → all_digits base (drop i text) ≡ (ltb (digit_value (get_or text i 0)) base && all_digits base (drop (i + 1) text))
-unfolding all_digits
-digits_step base text i inside = ap (all_digits base) (from_place text i inside)
-
--- the test of a text from place i on: a digit there passes it on, and any other octet fails it
-pub digit_passes : (base : ℕ) (text : List ℕ) (i : ℕ) → i < length text → digit_value (get_or text i 0) < base
-    → all_digits base (drop i text) ≡ all_digits base (drop (i + 1) text)
-digit_passes base text i inside below = digits_step base text i inside ∙ rw (lt-ltb (digit_value (get_or text i 0)) base below)
-
-pub digit_fails : (base : ℕ) (text : List ℕ) (i : ℕ) → i < length text → base ≤ digit_value (get_or text i 0) → all_digits base (drop i text) ≡ false
-digit_fails base text i inside above = digits_step base text i inside ∙ rw (le-ltb (digit_value (get_or text i 0)) base above)
-
--- nothing is left
-pub digits_end : (base : ℕ) (text : List ℕ) (i : ℕ) → i ≡ length text → all_digits base (drop i text) ≡ true
-unfolding all_digits
-digits_end base text i end = ap (λ (n : ℕ). all_digits base (drop n text)) end ∙ ap (all_digits base) (drop-length text)
 
 pub number_end : (base value : ℕ) (text : List ℕ) (i : ℕ) → i ≡ length text → value_from base value (drop i text) ≡ value
 unfolding value_from

@@ -191,10 +191,14 @@ module _ {S : Type 0} (rules : Rules S) where
       ∙ sym (append_assoc (said rules at octet) (said_by rules (hearing rules at octet) a) (said_by rules (heard_after rules (hearing rules at octet) a) b))
 
   -- a piece is heard octet by octet
-  pub heard_next : (at : Standing S) (piece : List ℕ) (i : ℕ) → i < length piece
+  heard_next : (at : Standing S) (piece : List ℕ) (i : ℕ) → i < length piece
       → heard_after rules at (drop i piece) ≡ heard_after rules (hearing rules at (get_or piece i 0)) (drop (i + 1) piece)
   unfolding heard_after
   heard_next at piece i inside = ap (heard_after rules at) (from_place piece i inside)
+
+  pub heard_on : (at : Standing S) (piece : List ℕ) (i : ℕ) {then : Standing S} → i < length piece → then ≡ hearing rules at (get_or piece i 0)
+      → heard_after rules at (drop i piece) ≡ heard_after rules then (drop (i + 1) piece)
+  heard_on at piece i inside is = heard_next at piece i inside ∙ ap (λ (s : Standing S). heard_after rules s (drop (i + 1) piece)) (sym is)
 
   pub heard_all : (at : Standing S) (piece : List ℕ) (i : ℕ) → i ≡ length piece → heard_after rules at (drop i piece) ≡ at
   unfolding heard_after

@@ -7,10 +7,14 @@ use mathlib.Core.Path.{◌≡◌, refl, sym, ap, ap₂, subst, ◌∙◌}
 use mathlib.Core.List.{List, [], ◌∷◌, ◌++◌, append_assoc, append-nil}
 use lib.ListN.{length, take, drop, set, length-append, length-drop, drop_of_length-le}
 use lib.Seq.{sets, drop-drop, length-take-le, take-length, take-append_seam, drop-append-add, take_at, drop_at}
+use Rattle.std.specs.Prelude.{Result, IsOk}
+use Rattle.std.specs.Result.{result_unwrap_or}
+use Rattle.refusals.specs.declared.Refusal.{Refusal}
 use Rattle.refusals.specs.Call.{Answered, front}
+use Rattle.refusals.specs.Number.{refusal_of}
 use Rattle.octets.proofs.Listed.{front_store}
 use Rattle.lines.specs.Text.{put_text_call, AtFront, Added}
-use Rattle.lines.proofs.Callers.{room_done}
+use Rattle.lines.proofs.Callers.{room_done, room_ok}
 use Rattle.lines.proofs.Text.{take-front, stored_front}
 
 -- what is written at the front is the text
@@ -69,6 +73,14 @@ added_put before place text answered room =
           ∙ append-nil (front text (drop place before))
           ∙ ap (λ (l : List ℕ). text ++ l) (drop-drop (length text) place before));
     }
+
+-- such a call has the room, and its answer is there to be unwrapped
+pub added_ok : (before : List ℕ) (place : ℕ) (text : List ℕ) (answer : Result ℕ Refusal) {last : List ℕ}
+    → Answered (put_text_call text (take (length before - place) (drop place before))) (refusal_of answer) (result_unwrap_or answer 0 ∷ []) last
+    → place + length text ≤ length before → IsOk answer
+added_ok before place text answer answered room =
+    room_ok (length text) text _ answer answered
+    (omega (arith, length-take-le (length before - place) (drop place before) (omega (arith, length-drop place before))))
 
 -- the output keeps its length
 pub length_added : {text before : List ℕ} {place end : ℕ} {after : List ℕ} → Added text before place end after → place + length text ≤ length before → length after ≡ length before

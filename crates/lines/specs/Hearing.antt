@@ -1,8 +1,9 @@
 -- Hearing lines octet by octet, for every program that answers lines. Between two octets a program stands at its state, which goes from line to
 -- line, and at the line so far. Assumes nothing.
-use Rattle.std.specs.Prelude.{ℕ, ◌+◌, ◌≡◌, cond, List, [], ◌∷◌, eqb, leb, ltb, take, set, replicate}
+use Rattle.std.specs.Prelude.{ℕ, ◌+◌, ◌≡◌, ◌⊎◌, cond, List, [], ◌∷◌, eqb, leb, ltb, take, set, replicate}
 use Rattle.refusals.specs.Call.{Call, Answered}
 use Rattle.lines.specs.declared.Heard.{Heard}
+use Rattle.lines.specs.declared.program.Hearer.{Hearer}
 use Rattle.lines.specs.Text.{room_order, puts_text, ended}
 
 -- nothing heard yet
@@ -34,6 +35,10 @@ pub record Rules (S : Type 0) : Type 0 where
 pub record Standing (S : Type 0) : Type 0 where
   pub state : S
   pub heard : Heard
+
+-- a program and the line that it has heard so far stand at the program's state and at that line
+abbrev pub stands : {S P : Type 0} → (P → S) → Hearer P → Standing S
+stands state hearer = record { state = state hearer.program; heard = hearer.heard }
 
 -- the rules where an answer goes by its line alone: it is a text, ended, and nothing goes from line to line
 abbrev pub line_rules : (List ℕ → List ℕ) → ℕ → Rules (Unit {0})
@@ -67,6 +72,14 @@ module _ {S : Type 0} (rules : Rules S) where
   unfoldable pub heard_after : Standing S → List ℕ → Standing S
   heard_after at [] = at
   heard_after at (octet ∷ rest) = heard_after (hearing at octet) rest
+
+-- the end of the input: where a line was heard that no line end has ended, a program then stands where a line feed would have led
+abbrev pub Finished : {S : Type 0} → Rules S → Standing S → Standing S → Type 0
+Finished rules at then = (then ≡ at) ⊎ (then ≡ hearing rules at 10)
+
+-- a state to which hearing some octets leads from another, with silence before them
+abbrev pub Reached : {S : Type 0} → Rules S → S → S → Type 0
+Reached rules first last = (octets : List ℕ) × ((heard_after rules (record { state = first; heard = silence }) octets).state ≡ last)
 
 -- what is said is put to the front of an output that must have the room of the rules, even where nothing is due
 abbrev pub say_call : {S : Type 0} → Rules S → List ℕ → List ℕ → Call (List ℕ)

@@ -1,11 +1,15 @@
--- The parts of the outputs that the results are.
+-- The parts of the outputs that the results are, and the answers of the calls.
 -- Assumes nothing.
 use Prim.Native.Nat.{ℕ, ◌+◌}
 use native.Mathlib.Omega.{arith}
-use mathlib.Core.Path.{◌≡◌, subst, ◌∙◌}
+use mathlib.Core.Path.{◌≡◌, ap, subst, ◌∙◌}
 use mathlib.Core.List.{List}
 use lib.ListN.{length, take, drop, length-drop}
 use lib.Seq.{take_all}
+use Rattle.std.specs.Prelude.{Result, Err}
+use Rattle.std.specs.Result.{IsErrAnd}
+use Rattle.std.proofs.lemmas.Result.{err_from_is_err_and}
+use Rattle.refusals.specs.declared.Refusal.{Refusal}
 use Rattle.refusals.specs.Refusal.{Row}
 use Rattle.refusals.specs.Call.{Answered, puts}
 use Rattle.octets.proofs.Xored.{length-xored}
@@ -30,3 +34,8 @@ pub answered_same : {order : List Row} {result result' output numbers lent : Lis
     → Answered (puts order result output) refusal numbers lent → Answered (puts order result' output) refusal numbers lent
 answered_same {order} {output = output} {numbers = numbers} {lent = lent} {refusal = refusal} same answered =
     subst (λ (l : List ℕ). Answered (puts order l output) refusal numbers lent) same answered
+
+-- what a `?` passes on, where it is known which refusal
+pub passed_on : {T : Type 0} {answer : Result T Refusal} {given refusal : Refusal} → IsErrAnd answer (λ other. other ≡ given) → given ≡ refusal
+    → answer ≡ Err refusal
+passed_on {answer = answer} passed same = let p = err_from_is_err_and answer passed in p.1 ∙ ap Err (p.2 ∙ same)

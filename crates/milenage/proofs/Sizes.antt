@@ -4,8 +4,7 @@ use Prim.Native.Nat.{ℕ}
 use mathlib.Core.Path.{◌≡◌}
 use mathlib.Core.Bool.{true, ◌&&◌, and-eq-true_iff}
 use mathlib.Core.List.{List}
-use borrow.Author.Tests.{eqb-true, eq-eqb}
-use lib.Dec.{eqb}
+use borrow.Author.Tests.{eq-eqb}
 use lib.ListN.{length}
 use Rattle.octets.proofs.Octets.{whole_key}
 use Rattle.milenage.specs.Calls.{is_string, are_numbers}
@@ -23,12 +22,6 @@ three_sizes key opc rand are =
     let each = (and-eq-true_iff (is_string key && is_string opc) (is_string rand)).0 are in
     let two = two_sizes key opc each.0 in
     (two.0, (two.1, string_size rand each.1))
-
-pub number_sizes : (sqn amf : List ℕ) → are_numbers sqn amf ≡ true → (length sqn ≡ 6) × (length amf ≡ 2)
-unfolding are_numbers
-number_sizes sqn amf are =
-    let each = (and-eq-true_iff (eqb (length sqn) 6) (eqb (length amf) 2)).0 are in
-    (eqb-true (length sqn) 6 each.0, eqb-true (length amf) 2 each.1)
 
 -- ---- for the callers
 

@@ -1,50 +1,28 @@
 // The strings of 128 bits that lie on the way to a result, 16 octets each.
-ghost use Rattle.std.specs.Prelude.{◌≡◌, ◌++◌, ◌%◌, ◌≤◌, ◌<◌, length, get_or};
+ghost use Rattle.std.specs.Prelude.{◌≡◌, ◌&&◌, ◌++◌, ◌≤◌, ◌<◌, ℕ, List, length, get_or};
+ghost use Rattle.refusals.specs.declared.Refusal.TheVariants.{Key, Length};
 ghost use Rattle.refusals.specs.Call.{front};
 ghost use Rattle.octets.specs.Xor.{xored};
 ghost use Rattle.aes.specs.Aes.{cipher, expanded};
 ghost use Rattle.milenage.specs.Milenage.{constant_octets, turned, opc_of, in1 as Milenage·in1, out1 as Milenage·out1, out as Milenage·out};
+ghost use Rattle.milenage.specs.Calls.{is_string, are_numbers};
+ghost use Rattle.milenage.specs.Taken.{Taken};
 
-use super::kinds::Out1;
+use super::kinds::{OUT1, Output};
+use refusals::Refusal;
+use std::array;
 
-// Puts octets to the front of an output that has room for them.
-pub(crate) fn put(octets: &[u8], output: &mut [u8])
-    requires { length octets.now ≤ length output.old }
-    ensures { output.new ≡ front octets.now output.old }
+// A string of 128 bits has 16 octets.
+pub(crate) fn string(octets: &[u8]) -> Result<&[u8; 16], Refusal>
+    ensures { Taken result (is_string octets.now) Key (λ whole. whole.now ≡ octets.now) }
 {
-    output[..octets.len()].copy_from_slice(octets);
+    let Some(whole) = octets.as_array() else {
+        return Err(Refusal::Key);
+    };
+    Ok(whole)
 }
 
-// The xor of two strings.
-fn xor(a: &[u8], b: &[u8]) -> [u8; 16]
-    requires { (length a.now ≡ 16) × (length b.now ≡ 16) }
-    ensures { result ≡ xored a.now b.now }
-{
-    let mut octets = [0u8; 16];
-    let mut i = 0;
-    while i < 16 {
-        octets[i] = a[i] ^ b[i];
-        i += 1;
-    }
-    octets
-}
-
-// A string turned to the left by `rotation` bits, which are whole octets.
-fn turn(string: &[u8], rotation: usize) -> [u8; 16]
-    requires { (length string.now ≡ 16) × ((rotation < 128) × (rotation % 8 ≡ 0)) }
-    ensures { result ≡ turned rotation string.now }
-{
-    let places = rotation / 8;
-    let mut octets = [0u8; 16];
-    let mut i = 0;
-    while i < 16 {
-        octets[i] = string[(i + places) % 16];
-        i += 1;
-    }
-    octets
-}
-
-// The octet at a place of SQN followed by AMF.
+// The octet at a place of SQN followed by AMF. `in1` alone calls it, and tests the two lengths for both.
 fn octet(sqn: &[u8], amf: &[u8], place: usize) -> u8
     requires { (length sqn.now ≡ 6) × ((length amf.now ≡ 2) × (place < 8)) }
     ensures { result ≡ get_or (sqn.now ++ amf.now) place 0 }
@@ -55,94 +33,122 @@ fn octet(sqn: &[u8], amf: &[u8], place: usize) -> u8
     amf[place - 6]
 }
 
-// SQN and AMF, and both once more.
-fn in1(sqn: &[u8], amf: &[u8]) -> [u8; 16]
-    requires { (length sqn.now ≡ 6) × (length amf.now ≡ 2) }
-    ensures { result ≡ Milenage·in1 sqn.now amf.now }
+// IN1: SQN of 48 bits and AMF of 16, and both once more.
+pub(crate) fn in1(sqn: &[u8], amf: &[u8]) -> Result<[u8; 16], Refusal>
+    ensures { Taken result (are_numbers sqn.now amf.now) Length (λ input. input ≡ Milenage·in1 sqn.now amf.now) }
 {
-    let mut octets = [0u8; 16];
-    let mut i = 0;
-    while i < 16 {
-        octets[i] = octet(sqn, amf, i % 8);
-        i += 1;
+    if sqn.len() != 6 || amf.len() != 2 {
+        return Err(Refusal::Length);
     }
-    octets
+    Ok(array::from_fn(|i| octet(sqn, amf, i % 8)))
 }
 
-// A number below 256 as one of 128 bits.
-fn constant(number: u8) -> [u8; 16]
-    ensures { result ≡ constant_octets number }
+// Puts octets to the front of an output that has room for them.
+pub(crate) fn put(octets: &[u8], output: &mut [u8])
+    requires { length octets.now ≤ length output.old }
+    ensures { output.new ≡ front octets.now output.old }
 {
-    let mut octets = [0u8; 16];
-    octets[15] = number;
-    octets
+    output[..octets.len()].copy_from_slice(octets);
+}
+
+// The xor of two strings.
+fn xor(a: &[u8; 16], b: &[u8; 16]) -> [u8; 16]
+    ensures { result ≡ xored a.now b.now }
+{
+    array::from_fn(|i| a[i] ^ b[i])
+}
+
+impl Output {
+    // A string turned by the rotation.
+    fn turned(self, string: &[u8; 16]) -> [u8; 16]
+        ensures { result ≡ turned self.rotation string.now }
+    {
+        // By index: `rotate_left` clears a buffer first, and a set of MILENAGE then takes twice as long.
+        let places = self.rotation / 8;
+        array::from_fn(|i| string[(i + places) % 16])
+    }
+
+    // The constant as a string.
+    fn octets(self) -> [u8; 16]
+        ensures { result ≡ constant_octets self.constant }
+    {
+        let mut octets = [0; 16];
+        octets[15] = self.constant;
+        octets
+    }
 }
 
 // The round keys of a key of 16 octets, which is never refused.
-fn round_keys(key: &[u8]) -> [u32; 44]
-    requires { length key.now ≡ 16 }
+fn round_keys(key: &[u8; 16]) -> [u32; 44]
     ensures { result ≡ expanded key.now 44 }
 {
-    let keys = aes::expand_key(key);
-    keys.words
-}
-
-// TEMP, by the round keys.
-fn temp(words: &[u32; 44], opc: &[u8], rand: &[u8]) -> [u8; 16]
-    requires { (length opc.now ≡ 16) × (length rand.now ≡ 16) }
-    ensures { result ≡ cipher words.now (xored rand.now opc.now) }
-{
-    let block = xor(rand, opc);
-    aes::encrypt_block(words, &block)
-}
-
-// An output, by the round keys, from the string that is xored with its constant.
-fn last(words: &[u32; 44], opc: &[u8], string: &[u8], number: u8) -> [u8; 16]
-    requires { (length opc.now ≡ 16) × (length string.now ≡ 16) }
-    ensures { result ≡ xored (cipher words.now (xored string.now (constant_octets number))) opc.now }
-{
-    let fixed = constant(number);
-    let block = xor(string, &fixed);
-    let encrypted = aes::encrypt_block(words, &block);
-    xor(&encrypted, opc)
+    aes::expand_key(key).unwrap()
 }
 
 // OPc from OP.
-pub(crate) fn opc(key: &[u8], op: &[u8]) -> [u8; 16]
-    requires { (length key.now ≡ 16) × (length op.now ≡ 16) }
+pub(crate) fn opc(key: &[u8; 16], op: &[u8; 16]) -> [u8; 16]
     ensures { result ≡ opc_of key.now op.now }
 {
     let words = round_keys(key);
-    let mut block = [0u8; 16];
-    put(op, &mut block);
-    let encrypted = aes::encrypt_block(&words, &block);
+    let encrypted = aes::encrypt_block(&words, op);
     xor(op, &encrypted)
 }
 
-// OUT1, from which f1 and f1* are cut.
-pub(crate) fn out1(key: &[u8], opc: &[u8], rand: &[u8], sqn: &[u8], amf: &[u8]) -> [u8; 16]
-    requires key_len { (length key.now ≡ 16) × ((length opc.now ≡ 16) × (length rand.now ≡ 16)) }
-    requires sqn_len { (length sqn.now ≡ 6) × (length amf.now ≡ 2) }
-    ensures { result ≡ Milenage·out1 key.now opc.now rand.now sqn.now amf.now }
-{
-    let words = round_keys(key);
-    let temp = temp(&words, opc, rand);
-    let input = in1(sqn, amf);
-    let met = xor(&input, opc);
-    let turned = turn(&met, Out1::ROTATION);
-    let string = xor(&temp, &turned);
-    last(&words, opc, &string, Out1::CONSTANT)
+// What each call but `opc` takes: K, OPc and RAND.
+#[derive(Clone, Copy)]
+pub(crate) struct Challenge<'a> {
+    key: &'a [u8; 16],
+    opc: &'a [u8; 16],
+    rand: &'a [u8; 16],
 }
 
-// OUT2 to OUT5, each by its own rotation and constant.
-pub(crate) fn out(rotation: usize, number: u8, key: &[u8], opc: &[u8], rand: &[u8]) -> [u8; 16]
-    requires rotation_bound { (rotation < 128) × (rotation % 8 ≡ 0) }
-    requires key_len { (length key.now ≡ 16) × ((length opc.now ≡ 16) × (length rand.now ≡ 16)) }
-    ensures { result ≡ Milenage·out (record { rotation = rotation; constant = number }) key.now opc.now rand.now }
-{
-    let words = round_keys(key);
-    let temp = temp(&words, opc, rand);
-    let met = xor(&temp, opc);
-    let turned = turn(&met, rotation);
-    last(&words, opc, &turned, number)
+impl<'a> Challenge<'a> {
+    // Each of the three has to be a string.
+    pub(crate) fn new(
+        key: &'a [u8],
+        opc: &'a [u8],
+        rand: &'a [u8],
+    ) -> Result<Challenge<'a>, Refusal>
+        ensures { Taken result (is_string key.now && is_string opc.now && is_string rand.now) Key (λ challenge. (challenge.key.now ≡ key.now) × ((challenge.opc.now ≡ opc.now) × (challenge.rand.now ≡ rand.now))) }
+    {
+        let key = string(key)?;
+        let opc = string(opc)?;
+        let rand = string(rand)?;
+        Ok(Challenge { key, opc, rand })
+    }
+
+    // TEMP, by the round keys.
+    fn temp(&self, words: &[u32; 44]) -> [u8; 16]
+        ensures { result ≡ cipher words.now (xored self.now.rand.now self.now.opc.now) }
+    {
+        aes::encrypt_block(words, &xor(self.rand, self.opc))
+    }
+
+    // An output, by the round keys, from the string that is xored with its constant.
+    fn last(&self, words: &[u32; 44], string: &[u8; 16], output: Output) -> [u8; 16]
+        ensures { result ≡ xored (cipher words.now (xored string.now (constant_octets output.constant))) self.now.opc.now }
+    {
+        let block = xor(string, &output.octets());
+        let encrypted = aes::encrypt_block(words, &block);
+        xor(&encrypted, self.opc)
+    }
+
+    // OUT1, from which f1 and f1* are cut, by IN1.
+    pub(crate) fn out1(&self, input: &[u8; 16]) -> [u8; 16]
+        ensures { (sqn amf : List ℕ) → input.now ≡ Milenage·in1 sqn amf → result ≡ Milenage·out1 self.now.key.now self.now.opc.now self.now.rand.now sqn amf }
+    {
+        let words = round_keys(self.key);
+        let turned = OUT1.turned(&xor(input, self.opc));
+        let string = xor(&self.temp(&words), &turned);
+        self.last(&words, &string, OUT1)
+    }
+
+    // OUT2 to OUT5, each by its own rotation and constant.
+    pub(crate) fn out(&self, output: Output) -> [u8; 16]
+        ensures { result ≡ Milenage·out (record { rotation = output.rotation; constant = output.constant }) self.now.key.now self.now.opc.now self.now.rand.now }
+    {
+        let words = round_keys(self.key);
+        let turned = output.turned(&xor(&self.temp(&words), self.opc));
+        self.last(&words, &turned, output)
+    }
 }

@@ -1,34 +1,28 @@
 -- The marks as bits of one number: a mark is tested by a mask, set by a mask, and moved by a shift.
 -- Assumes nothing.
 use Prim.Native.Nat.{ℕ, zero, suc, ◌+◌, ◌-◌, ◌*◌, ◌/◌, ◌%◌, ◌^◌, ◌≤◌, ◌<◌, min}
-use native.Mathlib.Nat.{le-div_iff_mul-le, div-lt_iff_lt-mul, one-mul, mod-lt, div-eq_of_lt, mul-mod_left, zero-mul, mul_assoc, sub-add_cancel, add-sub_of_le, le_of_lt, div-one, div_self, mod-le, lt_of_le_of_lt, min-eq_left, min-eq_right, le-min, pow-suc}
-use native.Mathlib.Decide.{dec_le, dec_lt, ℕ_discrete}
-use native.Mathlib.Numerals.{add-one, one-add}
+use native.Mathlib.Nat.{add-zero, le-div_iff_mul-le, one-mul, mod-lt, mul-mod_left, zero-mul, mul_assoc, sub-add_cancel, mod-le, lt_of_le_of_lt, min-eq_left, min-eq_right, le-min}
+use native.Mathlib.Decide.{dec_le, ℕ_discrete}
 use native.Mathlib.Omega.{arith}
 use mathlib.Core.Path.{◌≡◌, refl, sym, ap, subst, ◌∙◌}
 use mathlib.Core.Logic.{◌⊎◌, inl, inr}
 use mathlib.Core.Bool.{not}
 use borrow.Author.Tests.{ne_eqb}
 use lib.Arith.{bin_ind}
-use lib.Bits.{bit_and, bit_or, and_high, or_shifted, or_shr, or_mod, or_lt, or_zero_r}
+use lib.Bits.{bit_and, bit_or, or_shifted, or_lt}
 use lib.Dec.{eqb, lit<}
-use lib.Pow.{pow_pos, pow-lt, pow-add, shl_exact, shl_lt, shl-shr, shr-shr, field, mod-mod-pow}
+use lib.Pow.{pow_pos, pow-lt, pow-add, shl_lt, shr-shr, field, mod-mod-pow}
+use Rattle.std.proofs.lemmas.Nat.Bits.{bit_at_lowest, bit_at-zero, bit_at_or, bit_at-pow_same, bit_at-pow_other, and_pow, bit_at-lt, bit_at_above, bit_at_cat_low, bit_at_cat_high}
 use Rattle.numbering.specs.Numbering.{mark}
 
--- nothing is left of a number that is shifted past its bits
-pub below_shift : (m k : ℕ) → m / 2 ^ k ≤ 0 → m < 2 ^ k
-below_shift m k h = rw one-mul at ((div-lt_iff_lt-mul {x = m} {y = 1} (pow_pos k)).0 (omega arith))
-
+-- what is left of a number that is shifted says that it is not below the power
 pub past_shift : (m k : ℕ) → 0 < m / 2 ^ k → 2 ^ k ≤ m
 past_shift m k h = rw one-mul at ((le-div_iff_mul-le {x = 1} {y = m} (pow_pos k)).0 h)
 
 -- a mark is 0 or 1
-pub mark_lt : (m k : ℕ) → mark m k < 2
-unfolding mark
-mark_lt m k = mod-lt (m / 2 ^ k) (lit< tt)
-
 pub mark_cases : (m k : ℕ) → (mark m k ≡ 0) ⊎ (mark m k ≡ 1)
-mark_cases m k = go (mark m k) (mark_lt m k)
+unfolding mark
+mark_cases m k = go (mark m k) (bit_at-lt m k)
   where
     go : (b : ℕ) → b < 2 → (b ≡ 0) ⊎ (b ≡ 1)
     go zero l = inl refl
@@ -38,12 +32,12 @@ mark_cases m k = go (mark m k) (mark_lt m k)
 -- mark 0 is the lowest bit
 pub mark_zero : (m : ℕ) → mark m 0 ≡ m % 2
 unfolding mark
-mark_zero m = ap (λ (x : ℕ). x % 2) (div-one m)
+mark_zero m = bit_at_lowest m
 
 -- past a number's bits no mark is set
 pub mark_beyond : (m k : ℕ) → m < 2 ^ k → mark m k ≡ 0
 unfolding mark
-mark_beyond m k l = ap (λ (x : ℕ). x % 2) (div-eq_of_lt l)
+mark_beyond m k l = bit_at_above m k k l (omega arith)
 
 -- a number above 0 has a mark, and one that is not below 2^j has a mark from place j on
 some_mark : (m : ℕ) → 0 < m → (k : ℕ) × (mark m k ≡ 1)
@@ -62,36 +56,36 @@ mark_above m j above =
     let (k, set) = some_mark (m / 2 ^ j) ((le-div_iff_mul-le {x = 1} {y = m} (pow_pos j)).1 (rw one-mul above)) in
     (j + k, omega arith, ap (λ (x : ℕ). x % 2) (sym (shr-shr m j k)) ∙ set)
 
--- the mask of mark k is a 1, shifted by k in a word of b bits
-pub one_shifted : (b k : ℕ) → k < b → 1 * 2 ^ k % 2 ^ b ≡ 2 ^ k
-one_shifted b k l = shl_exact 1 k b (lit< tt) (omega arith) ∙ one-mul (2 ^ k)
-
--- what a mask leaves of the marks
-pub masked : (m k : ℕ) → bit_and m (2 ^ k) ≡ mark m k * 2 ^ k
-unfolding mark
-masked m k = ap (bit_and m) doubled ∙ and_high m 1 k
-  where
-    doubled : 2 ^ k ≡ 2 ^ (1 + k) - 2 ^ k
-    doubled = omega (arith, pow-add 2 1 k)
-
 -- the mask's test is the mark
 pub mask_tests : (m k : ℕ) → not (eqb (bit_and m (2 ^ k)) 0) ≡ eqb (mark m k) 1
-mask_tests m k = ap (λ (x : ℕ). not (eqb x 0)) (masked m k) ∙ go (mark m k) (mark_cases m k)
+unfolding mark
+mask_tests m k = ap (λ (x : ℕ). not (eqb x 0)) (and_pow m k) ∙ go (mark m k) (mark_cases m k)
   where
     go : (b : ℕ) → (b ≡ 0) ⊎ (b ≡ 1) → not (eqb (b * 2 ^ k) 0) ≡ eqb b 1
     go b (inl e) = rw (e, zero-mul)
     go b (inr e) = rw (e, one-mul, ne_eqb (2 ^ k) 0 (λ z. omega (arith, pow_pos k)))
 
--- a number shifted by at least one is even
-even_shift : (m g : ℕ) → 0 < g → m * 2 ^ g % 2 ≡ 0
-even_shift m zero l = absurd (omega arith)
-even_shift m (suc g) l = ap (λ (x : ℕ). x % 2) (ap (λ (x : ℕ). m * x) (pow-suc 2 g) ∙ sym (mul_assoc m (2 ^ g) 2)) ∙ mul-mod_left (m * 2 ^ g) 2
+-- marks in a word of w bits are those of the number below its place w
+mark_cut : (w m k : ℕ) → k < w → mark (m % 2 ^ w) k ≡ mark m k
+unfolding mark
+mark_cut w m k l =
+    let left : ℕ = w - k - 1 in
+    ap (λ (j : ℕ). m % 2 ^ j / 2 ^ k % 2) (omega arith)
+    ∙ ap (λ (x : ℕ). x % 2) (field m (left + 1) k)
+    ∙ mod-mod-pow (m / 2 ^ k) left 1
+
+-- marks moved up by g: below place g there is none, and mark k was mark k - g
+mark_below_shift : (m g k : ℕ) → k < g → mark (m * 2 ^ g) k ≡ 0
+unfolding mark
+mark_below_shift m g k l = rw add-zero at (bit_at_cat_low m g 0 k l) ∙ bit_at-zero k
+
+mark_shift : (m g k : ℕ) → g ≤ k → mark (m * 2 ^ g) k ≡ mark m (k - g)
+unfolding mark
+mark_shift m g k l = rw add-zero at (bit_at_cat_high m g 0 k (pow_pos g) l)
 
 -- marks moved by a gap leave place 0 free
-pub moved_even : (w m g : ℕ) → 0 < w → 0 < g → m * 2 ^ g % 2 ^ w % 2 ≡ 0
-moved_even zero m g wide l = absurd (omega arith)
-moved_even (suc w) m g wide l =
-    ap (λ (k : ℕ). m * 2 ^ g % 2 ^ k % 2) (sym (add-one w)) ∙ mod-mod-pow (m * 2 ^ g) w 1 ∙ even_shift m g l
+moved_even : (w m g : ℕ) → 0 < w → 0 < g → m * 2 ^ g % 2 ^ w % 2 ≡ 0
+moved_even w m g wide l = sym (mark_zero (m * 2 ^ g % 2 ^ w)) ∙ mark_cut w (m * 2 ^ g) 0 wide ∙ mark_below_shift m g 0 l
 
 -- so that the mark of the new number is set by adding one
 pub moved_marked : (w m g : ℕ) → 0 < w → 0 < g → bit_or (m * 2 ^ g % 2 ^ w) 1 ≡ m * 2 ^ g % 2 ^ w + 1
@@ -107,41 +101,14 @@ moved_out w m g l =
     ∙ ap (λ (x : ℕ). x % 2 ^ w) (ap (λ (x : ℕ). m * x) (pow-add 2 (g - w) w) ∙ sym (mul_assoc m (2 ^ (g - w)) (2 ^ w)))
     ∙ mul-mod_left (m * 2 ^ (g - w)) (2 ^ w)
 
--- marks in a word of w bits are those of the number below its place w
-mark_cut : (w m k : ℕ) → k < w → mark (m % 2 ^ w) k ≡ mark m k
-unfolding mark
-mark_cut w m k l =
-    let left : ℕ = w - k - 1 in
-    ap (λ (j : ℕ). m % 2 ^ j / 2 ^ k % 2) (omega arith)
-    ∙ ap (λ (x : ℕ). x % 2) (field m (left + 1) k)
-    ∙ mod-mod-pow (m / 2 ^ k) left 1
-
--- marks moved up by g: below place g there is none, and mark k was mark k - g
-mark_below_shift : (m g k : ℕ) → k < g → mark (m * 2 ^ g) k ≡ 0
-unfolding mark
-mark_below_shift m g k l =
-    ap (λ (j : ℕ). m * 2 ^ j / 2 ^ k % 2) (sym (sub-add_cancel (le_of_lt l)))
-    ∙ ap (λ (x : ℕ). x / 2 ^ k % 2) (ap (λ (x : ℕ). m * x) (pow-add 2 (g - k) k) ∙ sym (mul_assoc m (2 ^ (g - k)) (2 ^ k)))
-    ∙ ap (λ (x : ℕ). x % 2) (shl-shr (m * 2 ^ (g - k)) k)
-    ∙ even_shift m (g - k) (omega arith)
-
-mark_shift : (m g k : ℕ) → g ≤ k → mark (m * 2 ^ g) k ≡ mark m (k - g)
-unfolding mark
-mark_shift m g k l =
-    ap (λ (j : ℕ). m * 2 ^ g / 2 ^ j % 2) (sym (add-sub_of_le l))
-    ∙ ap (λ (x : ℕ). x % 2) (sym (shr-shr (m * 2 ^ g) g (k - g)))
-    ∙ ap (λ (x : ℕ). x / 2 ^ (k - g) % 2) (shl-shr m g)
-
 -- one added to an even number changes mark 0 alone
 mark_odd : (x k : ℕ) → x % 2 ≡ 0 → 0 < k → mark (x + 1) k ≡ mark x k
 unfolding mark
-mark_odd x zero even l = absurd (omega arith)
-mark_odd x (suc k) even l =
-    ap (λ (j : ℕ). (x + 1) / 2 ^ j % 2) (sym (one-add k))
-    ∙ ap (λ (y : ℕ). y % 2) (sym (shr-shr (x + 1) 1 k))
-    ∙ ap (λ (y : ℕ). y / 2 ^ k % 2) (omega arith)
-    ∙ ap (λ (y : ℕ). y % 2) (shr-shr x 1 k)
-    ∙ ap (λ (j : ℕ). x / 2 ^ j % 2) (one-add k)
+mark_odd x k even l =
+    ap (λ (y : ℕ). y / 2 ^ k % 2) {x = x + 1} {y = x / 2 * 2 ^ 1 + 1} (omega arith)
+    ∙ bit_at_cat_high (x / 2) 1 1 k (lit< tt) l
+    ∙ sym (bit_at_cat_high (x / 2) 1 0 k (lit< tt) l)
+    ∙ ap (λ (y : ℕ). y / 2 ^ k % 2) {x = x / 2 * 2 ^ 1 + 0} {y = x} (omega arith)
 
 -- the marks after a new number, a gap of g ahead
 module _ (w m g : ℕ) (wide : 0 < w) (gap : 0 < g) where
@@ -168,7 +135,7 @@ new_within w m v n wide new within = go (dec_le w (n + 1))
     moved = m * 2 ^ (n + 1 - v) % 2 ^ w
 
     even : (k : ℕ) → 0 < k → moved < 2 ^ k → moved + 1 < 2 ^ k
-    even k some below = omega (arith, moved_even w m (n + 1 - v) wide (omega arith), rw one-mul at (even_shift 1 k some))
+    even k some below = omega (arith, moved_even w m (n + 1 - v) wide (omega arith), bit_at_lowest (2 ^ k), bit_at-pow_other k 0 (λ zero. omega (arith, zero)))
 
     go : Dec (w ≤ n + 1) → moved + 1 < 2 ^ min w (n + 1)
     go (yes long) = rw (min-eq_left long) (even w wide (mod-lt (m * 2 ^ (n + 1 - v)) (pow_pos w)))
@@ -178,38 +145,18 @@ new_within w m v n wide new within = go (dec_le w (n + 1))
         rw (min-eq_right {n = n + 1} {m = w} (omega arith)) (even (n + 1) (omega arith) (lt_of_le_of_lt (mod-le (m * 2 ^ (n + 1 - v)) (2 ^ w)) shifted))
 
 -- the marks after a late number, whose mark is j
-mark_or : (a b k : ℕ) → mark (bit_or a b) k ≡ bit_or (mark a k) (mark b k)
-unfolding mark
-mark_or a b k = ap (λ (x : ℕ). x % 2) (or_shr a b k) ∙ or_mod (a / 2 ^ k) (b / 2 ^ k) 1
-
-mark_of_mask : (j : ℕ) → mark (2 ^ j) j ≡ 1
-unfolding mark
-mark_of_mask j = ap (λ (x : ℕ). x % 2) (div_self (pow_pos j))
-
-mark_off_mask : (j k : ℕ) → (k ≡ j → ⊥) → mark (2 ^ j) k ≡ 0
-mark_off_mask j k apart = go (dec_lt k j)
-  where
-    go : Dec (k < j) → mark (2 ^ j) k ≡ 0
-    go (yes l) = rw one-mul at (mark_below_shift 1 j k l)
-    go (no l) = mark_beyond (2 ^ j) k (pow-lt (omega arith))
-
 pub mark_set : (m j : ℕ) → mark (bit_or m (2 ^ j)) j ≡ 1
-mark_set m j = mark_or m (2 ^ j) j ∙ ap (bit_or (mark m j)) (mark_of_mask j) ∙ go (mark m j) (mark_cases m j)
-  where
-    go : (b : ℕ) → (b ≡ 0) ⊎ (b ≡ 1) → bit_or b 1 ≡ 1
-    go b (inl e) = ap (λ (x : ℕ). bit_or x 1) e
-    go b (inr e) = ap (λ (x : ℕ). bit_or x 1) e
+unfolding mark
+mark_set m j = omega (arith, bit_at_or m (2 ^ j) j, bit_at-pow_same j, bit_at-lt m j)
 
 pub mark_kept : (m j k : ℕ) → (k ≡ j → ⊥) → mark (bit_or m (2 ^ j)) k ≡ mark m k
-mark_kept m j k apart = mark_or m (2 ^ j) k ∙ ap (bit_or (mark m k)) (mark_off_mask j k apart) ∙ or_zero_r (mark m k)
+unfolding mark
+mark_kept m j k apart = omega (arith, bit_at_or m (2 ^ j) k, bit_at-pow_other j k apart)
 
 -- a mark that is set stays set
 pub mark_stays : (m j k : ℕ) → mark m k ≡ 1 → mark (bit_or m (2 ^ j)) k ≡ 1
-mark_stays m j k was = go (ℕ_discrete k j)
-  where
-    go : Dec (k ≡ j) → mark (bit_or m (2 ^ j)) k ≡ 1
-    go (yes same) = ap (mark (bit_or m (2 ^ j))) same ∙ mark_set m j
-    go (no apart) = mark_kept m j k apart ∙ was
+unfolding mark
+mark_stays m j k was = omega (arith, bit_at_or m (2 ^ j) k, bit_at-lt (2 ^ j) k)
 
 pub late_within : (w m v n : ℕ) → n < v → v ≤ n + w → m < 2 ^ min w v → bit_or m (2 ^ (v - 1 - n)) < 2 ^ min w v
 late_within w m v n late inside within =

@@ -18,9 +18,6 @@ pub marks_of_lem : (v marks : ℕ) → marks_of (numbering_of v marks) ≡ marks
 unfolding marks_of
 marks_of_lem v marks = refl
 
-pub next_of : (v marks : ℕ) → (numbering_of v marks).next ≡ v
-next_of v marks = refl
-
 pub numbering_of_lem : (state : Numbering) → numbering_of state.next (marks_of state) ≡ state
 unfolding marks_of
 numbering_of_lem state = refl

@@ -1,13 +1,13 @@
 -- The laws of `listed`, a list by its elements, and of a buffer whose front a loop fills with them.
 -- Assumes nothing.
 use mathlib.Core.Path.{◌≡◌, refl, sym, ap, ap₂, ◌∙◌}
-use mathlib.Core.List.{List, [], ◌∷◌, ◌++◌, map, append-nil, append_assoc}
+use mathlib.Core.List.{List, [], ◌∷◌, ◌++◌, append-nil, append_assoc}
 use mathlib.Core.Logic.{⊎_elim}
 use Prim.Native.Nat.{ℕ, zero, suc, ◌+◌, ◌≤◌, ◌<◌}
 use native.Mathlib.Nat.{add-zero, add-suc, eq-or-lt_of_le, le_of_suc-le-suc, not-suc-le-zero}
 use native.Mathlib.Numerals.{add-one}
 use native.Mathlib.Omega.{arith}
-use lib.ListN.{length, get_or, set, take, drop, replicate, length-append, length-take, length-drop, length-map, take-append-drop, get_or-append, get_or-map}
+use lib.ListN.{length, get_or, set, take, drop, replicate, length-append, length-take, length-drop, take-append-drop, get_or-append}
 use lib.Seq.{append_snoc, drop-cons, set_at, get_or_at, get_or-append-add, take_at, drop_at, drop-append-le, drop-drop, ext_get_or}
 use Rattle.octets.specs.Bits.{listed}
 
@@ -43,13 +43,6 @@ listed_add f m (suc n) =
     ap (listed f) (add-suc m n)
     ∙ ap (λ (l : List ℕ). l ++ (f (m + n) ∷ [])) (listed_add f m n)
     ∙ append_assoc (listed f m) (listed (λ i. f (m + i)) n) (f (m + n) ∷ [])
-
--- a function of each element of a list
-pub listed_map : (f : ℕ → ℕ) (l : List ℕ) → listed (λ i. f (get_or l i 0)) (length l) ≡ map f l
-listed_map f l =
-    ext_get_or (f 0) _ _
-    (length-listed (λ i. f (get_or l i 0)) (length l) ∙ sym (length-map l f))
-    (λ i below. get_or-listed (λ i. f (get_or l i 0)) (length l) i (f 0) (rw length-listed at below) ∙ sym (get_or-map f l i 0))
 
 -- zeros, and past their end nothing, which reads as zero
 pub get_or-zeros : (n i : ℕ) → ◌≡◌ {A = ℕ} (get_or (replicate n 0) i 0) 0

@@ -3,9 +3,12 @@
 
 ghost use Rattle.std.specs.Prelude.{◌≡◌, [], ℕ, ◌+◌, ◌^◌, ◌<◌};
 ghost use Rattle.octets.specs.Bits.{bit_of, number, first_bits, octet_or_zero, size as Bits·size};
+ghost use Rattle.refusals.specs.Number.{refusal_of};
 ghost use Rattle.refusals.specs.Call.{Answered};
 ghost use Rattle.octets.specs.Cut.{cut_call};
 ghost use Rattle.octets.specs.Xor.{xor_call};
+
+use refusals::Refusal;
 
 // How many octets hold `count` bits.
 pub fn size(count: u32) -> usize
@@ -29,11 +32,7 @@ pub fn first_bits(whole: u8, count: usize) -> u8
 pub fn octet_or_zero(source: &[u8], place: usize) -> u8
     ensures { result ≡ octet_or_zero source.now place }
 {
-    if place < source.len() {
-        source[place]
-    } else {
-        0
-    }
+    source.get(place).copied().unwrap_or(0)
 }
 
 // The eight bits of the source from bit `at` on: they stand in two octets that follow one another.
@@ -41,41 +40,37 @@ fn eight_bits(source: &[u8], at: usize) -> u8
     requires { at < 2 ^ 40 }
     ensures { result ≡ number (λ (j : ℕ). bit_of source.now (at + j)) 8 }
 {
-    let high = octet_or_zero(source, at / 8) as u32;
-    let low = octet_or_zero(source, at / 8 + 1) as u32;
-    (((high * 256 + low) >> (8 - at % 8)) % 256) as u8
+    let high = octet_or_zero(source, at / 8);
+    let low = octet_or_zero(source, at / 8 + 1);
+    ((u16::from_be_bytes([high, low]) >> (8 - at % 8)) % 256) as u8
 }
 
 // Cuts `count` bits out of the source, from bit `start` on, into the output.
-pub fn cut(source: &[u8], start: u32, count: u32, output: &mut [u8]) -> u8
-    ensures { Answered (cut_call source.now start count output.old) result [] output.new }
+pub fn cut(source: &[u8], start: u32, count: u32, output: &mut [u8]) -> Result<(), Refusal>
+    ensures { Answered (cut_call source.now start count output.old) (refusal_of result) [] output.new }
 {
     let size = size(count);
     if output.len() < size {
-        return refusals::ROOM;
+        return Err(Refusal::Room);
     }
-    let mut k = 0;
-    while k < size {
+    for k in 0..size {
         output[k] = first_bits(
             eight_bits(source, start as usize + 8 * k),
             count as usize - 8 * k,
         );
-        k += 1;
     }
-    0
+    Ok(())
 }
 
 // Puts the source xor the stream to the front of the output. Where the stream has ended, the source stays as it is.
-pub fn xor(source: &[u8], stream: &[u8], output: &mut [u8]) -> u8
-    ensures { Answered (xor_call source.now stream.now output.old) result [] output.new }
+pub fn xor(source: &[u8], stream: &[u8], output: &mut [u8]) -> Result<(), Refusal>
+    ensures { Answered (xor_call source.now stream.now output.old) (refusal_of result) [] output.new }
 {
     if output.len() < source.len() {
-        return refusals::ROOM;
+        return Err(Refusal::Room);
     }
-    let mut i = 0;
-    while i < source.len() {
-        output[i] = source[i] ^ octet_or_zero(stream, i);
-        i += 1;
+    for (i, octet) in source.iter().enumerate() {
+        output[i] = octet ^ octet_or_zero(stream, i);
     }
-    0
+    Ok(())
 }

@@ -4,3 +4,4 @@ pub mod Laws
 pub mod Message
 pub mod Padded
 pub mod Telling
+pub mod Words

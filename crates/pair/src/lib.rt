@@ -3,22 +3,23 @@
 #![tactic(auto)]
 
 mod chain;
-mod kinds;
+mod given;
 mod string;
 
-ghost use Rattle.std.specs.Prelude.{◌≡◌, [], ◌∷◌, ◌≤◌, ◌<◌, length};
+ghost use Rattle.std.specs.Prelude.{◌≡◌, [], ◌∷◌, ◌≤◌, length, false};
+ghost use Rattle.std.specs.Result.{MatchResult, result_unwrap_or};
+ghost use Rattle.refusals.specs.declared.Refusal.TheVariants.{Key};
+ghost use Rattle.refusals.specs.Number.{refusal_of};
 ghost use Rattle.refusals.specs.Call.{Answered, front};
 ghost use Rattle.octets.specs.Bits.{size as Bits·size};
 ghost use Rattle.octets.specs.Octets.{is_whole_key};
-ghost use Rattle.pair.specs.Message.{is_bit_count};
-ghost use Rattle.pair.specs.F8.{f8_output, f8_call};
+ghost use Rattle.pair.specs.F8.{f8_core, f8_output, f8_call};
 ghost use Rattle.pair.specs.F9.{f9_call, check_call};
 
+use given::{MOST_OCTETS, Message};
 use kgcore::Inputs;
-use kinds::F8;
-
-// The most bits of a message.
-const MOST_BITS: u32 = 20_000;
+use refusals::Refusal;
+use string::Padded;
 
 // What a caller of f8 sets: COUNT (32 bits), BEARER (5) and DIRECTION (1).
 #[derive(Clone, Copy)]
@@ -36,137 +37,98 @@ pub struct F9Inputs {
     pub direction: u8,
 }
 
-// The answer of f9: the refusal number, or 0 and the code.
-#[derive(Clone, Copy)]
-pub struct Code {
-    pub refusal: u8,
-    pub code: u32,
+// What f8 fixes of KGCORE's inputs, named once (document 004, table B.1). CB is the BEARER.
+impl F8Inputs {
+    const CA: u8 = 0;
+
+    const CE: u16 = 0;
 }
 
-// The answer of a check: the refusal number, or 0 and whether the code is right.
-#[derive(Clone, Copy)]
-pub struct Checked {
-    pub refusal: u8,
-    pub right: bool,
-}
+impl From<F8Inputs> for Inputs {
+    ghost from_gives = { λ inputs core. core ≡ f8_core inputs };
 
-// A key of the pair has 16 octets; 8 will not do here.
-fn is_whole_key(key: &[u8]) -> bool
-    ensures { result ≡ is_whole_key key.now }
-{
-    key.len() == 16
-}
-
-// A message has 1 to 20,000 bits.
-fn is_bit_count(bits: u32) -> bool
-    ensures { result ≡ is_bit_count bits }
-{
-    (0 < bits) & (bits <= MOST_BITS)
-}
-
-// Room for the longest keystream: 20,000 bits are 2,500 octets.
-fn room() -> [u8; 2500]
-    ensures { length result ≡ 2500 }
-{
-    [0u8; 2500]
-}
-
-// Puts the message xor the keystream to the front of an output that has room for it, and clears the spare bits of the last octet.
-fn put_ciphered(inputs: F8Inputs, key: &[u8], message: &[u8], bits: u32, output: &mut [u8])
-    requires key_len { (length key.now ≡ 16) × ((inputs.bearer ≤ 31) × (inputs.direction ≤ 1)) }
-    requires bits_nonzero { (0 < bits) × ((bits ≤ 20000) × ((Bits·size bits ≤ length message.now) × (Bits·size bits ≤ length output.old))) }
-    ensures { output.new ≡ front (f8_output inputs key.now message.now bits) output.old }
-{
-    let size = octets::size(bits);
-    let mut stream = room();
-    kgcore::kgcore(
+    #[tactic(auto, unfolding(crate::specs::F8::f8_core))]
+    fn from(inputs: F8Inputs) -> Inputs {
         Inputs {
-            ca: F8::CA,
+            ca: F8Inputs::CA,
             cb: inputs.bearer,
             cc: inputs.count,
             cd: inputs.direction,
-            ce: F8::CE,
-        },
-        key,
-        bits,
-        &mut stream,
-    );
-    octets::xor(&message[..size], &stream, output);
+            ce: F8Inputs::CE,
+        }
+    }
+}
+
+// A key of the pair has 16 octets; 8 will not do here.
+fn whole_key(key: &[u8]) -> Result<&[u8; 16], Refusal>
+    ensures { MatchResult result (λ whole. (length key.now ≡ 16) × (whole.now ≡ key.now)) (λ refusal. (is_whole_key key.now ≡ false) × (refusal ≡ Key)) }
+{
+    <&[u8; 16]>::try_from(key).map_err(|_| Refusal::Key)
+}
+
+// Puts the message xor the keystream to the front of an output that has room for it, and clears the spare bits of the last octet.
+#[tactic(auto, unfolding(octets::specs::Bits::size))]
+fn put_ciphered(inputs: F8Inputs, key: &[u8; 16], message: Message, output: &mut [u8])
+    requires in_range { (inputs.bearer ≤ 31) × (inputs.direction ≤ 1) }
+    requires room { Bits·size message.bits ≤ length output.old }
+    ensures { output.new ≡ front (f8_output inputs key.now message.entry.octets.now message.entry.bits) output.old }
+{
+    let size = message.size();
+    let mut stream = [0u8; MOST_OCTETS];
+    kgcore::kgcore(inputs.into(), key, message.bits, &mut stream).unwrap();
+    octets::xor(&message.octets[..size], &stream, output).unwrap();
     let last = size - 1;
-    output[last] = octets::first_bits(output[last], bits as usize - 8 * last);
+    output[last] = octets::first_bits(output[last], message.bits as usize - 8 * last);
 }
 
 // Enciphers the first `bits` bits of a message, or deciphers them.
-pub fn f8(inputs: F8Inputs, key: &[u8], message: &[u8], bits: u32, output: &mut [u8]) -> u8
-    ensures { Answered (f8_call inputs key.now message.now bits output.old) result [] output.new }
+#[tactic(auto, unfolding(refusals::specs::Refusal::first, crate::specs::F8::f8_order, crate::specs::Message::message_order))]
+pub fn f8(
+    inputs: F8Inputs,
+    key: &[u8],
+    message: &[u8],
+    bits: u32,
+    output: &mut [u8],
+) -> Result<(), Refusal>
+    ensures { Answered (f8_call inputs key.now message.now bits output.old) (refusal_of result) [] output.new }
 {
-    if !is_whole_key(key) {
-        return refusals::KEY;
-    }
+    let key = whole_key(key)?;
     if 31 < inputs.bearer || 1 < inputs.direction {
-        return refusals::RANGE;
+        return Err(Refusal::Range);
     }
-    if !is_bit_count(bits) {
-        return refusals::SIZE;
+    let message = Message::of(message, bits)?;
+    if output.len() < message.size() {
+        return Err(Refusal::Room);
     }
-    let size = octets::size(bits);
-    if message.len() < size {
-        return refusals::LENGTH;
-    }
-    if output.len() < size {
-        return refusals::ROOM;
-    }
-    put_ciphered(inputs, key, message, bits, output);
-    0
+    put_ciphered(inputs, key, message, output);
+    Ok(())
 }
 
 // The code of the first `bits` bits of a message.
-pub fn f9(inputs: F9Inputs, key: &[u8], message: &[u8], bits: u32) -> Code
-    ensures { Answered (f9_call inputs key.now message.now bits) result.refusal (result.code ∷ []) tt }
+#[tactic(auto, unfolding(refusals::specs::Refusal::first, crate::specs::F9::f9_order, crate::specs::Message::message_order))]
+pub fn f9(inputs: F9Inputs, key: &[u8], message: &[u8], bits: u32) -> Result<u32, Refusal>
+    ensures { Answered (f9_call inputs key.now message.now bits) (refusal_of result) (result_unwrap_or result 0 ∷ []) tt }
 {
-    if !is_whole_key(key) {
-        return Code {
-            refusal: refusals::KEY,
-            code: 0,
-        };
-    }
+    let key = whole_key(key)?;
     if 1 < inputs.direction {
-        return Code {
-            refusal: refusals::RANGE,
-            code: 0,
-        };
+        return Err(Refusal::Range);
     }
-    if !is_bit_count(bits) {
-        return Code {
-            refusal: refusals::SIZE,
-            code: 0,
-        };
-    }
-    if message.len() < octets::size(bits) {
-        return Code {
-            refusal: refusals::LENGTH,
-            code: 0,
-        };
-    }
-    Code {
-        refusal: 0,
-        code: chain::code(inputs, key, message, bits),
-    }
+    let string = Padded {
+        inputs,
+        message: Message::of(message, bits)?,
+    };
+    Ok(chain::code(key, string))
 }
 
-// Whether a code is that of the first `bits` bits of a message. Where f9 is refused, so is the check, and answers no.
-pub fn check_code(inputs: F9Inputs, key: &[u8], message: &[u8], bits: u32, code: u32) -> Checked
-    ensures { Answered (check_call inputs key.now message.now bits code) result.refusal [] result.right }
+// Whether a code is that of the first `bits` bits of a message. Where f9 is refused, so is the check.
+pub fn check_code(
+    inputs: F9Inputs,
+    key: &[u8],
+    message: &[u8],
+    bits: u32,
+    code: u32,
+) -> Result<bool, Refusal>
+    ensures { Answered (check_call inputs key.now message.now bits code) (refusal_of result) [] (result_unwrap_or result false) }
 {
-    let own = f9(inputs, key, message, bits);
-    if own.refusal != 0 {
-        return Checked {
-            refusal: own.refusal,
-            right: false,
-        };
-    }
-    Checked {
-        refusal: 0,
-        right: own.code == code,
-    }
+    Ok(f9(inputs, key, message, bits)? == code)
 }

@@ -55,7 +55,7 @@ IsOrder Lent call = T (is_order call.order)
 orders : All (Always IsOrder) public_calls
 unfolding cut_order xor_order kasumi_order expand_key_order aes_order kgcore_order key_order a5_order gea4_order f8_order f9_order opc_order code_order result_order candidate_order number_order look_order header_order link_order cipher_order reserve_order seal_order open_order form_order store_sender_order restore_sender_order store_receiver_order restore_receiver_order digits_order room_order hex_order
 orders =
-    tt ⊗ tt ⊗ tt ⊗ in4 ⊗ in3 ⊗ tt ⊗ in1 ⊗ tt ⊗ in2 ⊗ in1 ⊗ tt ⊗ in3 ⊗ in4 ⊗ in1 ⊗ in3 ⊗ in3 ⊗ in5 ⊗ in5 ⊗ in4 ⊗ in5 ⊗ in3 ⊗ in6 ⊗ in6 ⊗ in4 ⊗ in4 ⊗ in4 ⊗ in4 ⊗ in4 ⊗ tt ⊗ tt ⊗ in2 ⊗ tt ⊗ in1 ⊗ tt ⊗ in3 ⊗ tt ⊗ in4 ⊗ in4 ⊗ in4 ⊗ tt ⊗ in2 ⊗ in3 ⊗ in4 ⊗ tt ⊗ in3 ⊗ in3 ⊗ in2 ⊗ in1 ⊗ in1 ⊗ in1 ⊗ in1 ⊗ in2 ⊗ in2 ⊗ in2 ⊗ in2 ⊗ tt ⊗ tt ⊗ tt ⊗ tt ⊗ tt
+    tt ⊗ tt ⊗ tt ⊗ tt ⊗ in4 ⊗ in3 ⊗ tt ⊗ in1 ⊗ tt ⊗ in2 ⊗ in1 ⊗ tt ⊗ in3 ⊗ in4 ⊗ in1 ⊗ in3 ⊗ in3 ⊗ in5 ⊗ in5 ⊗ in4 ⊗ in5 ⊗ in3 ⊗ in6 ⊗ in6 ⊗ in4 ⊗ in4 ⊗ in4 ⊗ in4 ⊗ in4 ⊗ tt ⊗ tt ⊗ in2 ⊗ tt ⊗ in1 ⊗ tt ⊗ in3 ⊗ tt ⊗ in4 ⊗ in4 ⊗ in4 ⊗ tt ⊗ in2 ⊗ in3 ⊗ in4 ⊗ tt ⊗ in3 ⊗ in3 ⊗ in2 ⊗ in1 ⊗ in1 ⊗ in1 ⊗ in1 ⊗ in2 ⊗ in2 ⊗ in2 ⊗ in2 ⊗ tt ⊗ tt ⊗ tt ⊗ tt ⊗ tt
 
 pub all_answer : All (Always (λ Lent call. Answers call)) public_calls
 all_answer = of_all (λ Lent call order. answers call order) public_calls orders

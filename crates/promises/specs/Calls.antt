@@ -1,6 +1,7 @@
 -- Every public call of every crate, each by the entry that its own contract cites, in one list. The width of the link's window is `width`.
 -- Assumes nothing.
 use Rattle.std.specs.Prelude.{List, [], ◌∷◌}
+use Rattle.refusals.specs.Number.{number_of}
 use Rattle.refusals.specs.Call.{PublicCall, function, call1, call2, call3, call4, call5, call6}
 use Rattle.octets.specs.Bits.{size, first_bits, octet_or_zero}
 use Rattle.octets.specs.Cut.{cut_call}
@@ -30,6 +31,8 @@ use Rattle.script.specs.Script.{asked}
 -- the public calls, each after its name: a function that cannot be refused, or a call with so many inputs
 abbrev pub public_calls : List PublicCall
 public_calls =
+    -- refusals::number
+    function number_of ∷
     -- octets::size
     function size ∷
     -- octets::first_bits

@@ -1,7 +1,7 @@
 -- What opening a frame answers, cause by cause, for every width.
 -- Assumes nothing.
 use Prim.Native.Nat.{ℕ, ◌≤◌, ◌<◌}
-use mathlib.Core.Path.{◌≡◌, refl, sym, subst, ◌∙◌}
+use mathlib.Core.Path.{◌≡◌, refl, sym, ◌∙◌}
 use mathlib.Core.Bool.{Bool, true, false, cond, not, ◌||◌, and-eq-true_iff}
 use mathlib.Core.List.{List, [], ◌∷◌, ◌++◌}
 use borrow.Author.Tests.{eq-eqb, ne_eqb, lt-ltb, le-ltb}
@@ -10,14 +10,14 @@ use lib.ListN.{length, get_or}
 use Rattle.refusals.specs.Refusal.{Row, first}
 use Rattle.refusals.specs.Call.{Answered}
 use Rattle.refusals.proofs.Laws.{first_append}
-use Rattle.refusals.proofs.Calls.{refused}
+use Rattle.refusals.proofs.Calls.{answered_done, refused_zeros, head_is}
 use Rattle.frames.specs.Frame.{header_of, payload_of, is_whole, has_zero_bits, look_order}
 use Rattle.numbering.specs.declared.Numbering.{Numbering}
-use Rattle.numbering.specs.Numbering.{can_arise, is_accepted, is_below0, is_past_end, candidate, candidate_order}
+use Rattle.numbering.specs.Numbering.{can_arise, is_accepted, is_below0, is_past_end, accepted, candidate, candidate_order, number_call}
+use Rattle.numbering.proofs.Step.{candidate_decides}
 use Rattle.link.specs.Link.{link_can_arise}
 use Rattle.receiver.specs.declared.Receiver.{Receiver}
-use Rattle.receiver.specs.declared.Opened.{Opened}
-use Rattle.receiver.specs.Receiver.{receiver_can_arise, is_of_link, candidate_of, open_order, open_call}
+use Rattle.receiver.specs.Receiver.{receiver_can_arise, is_of_link, candidate_of, open_order}
 
 -- the refusals with which a frame's number is given
 abbrev pub gives_number : ℕ → Bool
@@ -52,6 +52,24 @@ pub receiver_says : (w : ℕ) (receiver : Receiver) → receiver_can_arise w rec
 unfolding receiver_can_arise
 receiver_says w receiver good = (and-eq-true_iff _ _).0 good
 
+-- the step of the numbering that a frame's N takes: its refusal is that of the candidate, and its number is given as the frame's is
+module _ (w : ℕ) (receiver : Receiver) (octets : List ℕ) (good : receiver_can_arise w receiver ≡ true) (sent_most : (header_of octets).sent ≤ 511) {refusal number : ℕ} {state : Numbering}
+    (step : Answered (number_call w receiver.numbering (header_of octets).sent) refusal (number ∷ []) state) where
+  pub step_decides : refusal ≡ first (candidate_order w receiver.numbering (header_of octets).sent)
+  step_decides = step.refusal_is ∙ candidate_decides w receiver.numbering (header_of octets).sent (receiver_says w receiver good).1 sent_most
+
+  pub step_refused : (refusal ≡ 0 → ⊥) → number ≡ cond (gives_number refusal) (candidate_of w receiver octets) 0
+  unfolding candidate_of
+  step_refused some =
+      let given : eqb refusal 11 ≡ gives_number refusal = rw step_decides (step_gives w receiver.numbering (header_of octets).sent) in
+      rw given at (head_is (refused_zeros (number_call w receiver.numbering (header_of octets).sent) step some))
+
+  pub step_done : refusal ≡ 0 → (number ≡ candidate_of w receiver octets) × (state ≡ accepted w receiver.numbering (candidate_of w receiver octets))
+  unfolding candidate_of
+  step_done none =
+      let done = answered_done (number_call w receiver.numbering (header_of octets).sent) step (sym step.refusal_is ∙ none) in
+      (head_is done.1, done.2)
+
 -- ---- the answers
 
 -- the rows after those of the candidate, and after those of the look
@@ -64,14 +82,6 @@ after_look w receiver octets before =
     (candidate_order w receiver.numbering (header_of octets).sent ++ after_candidate octets before)
 
 module _ (w : ℕ) (receiver : Receiver) (octets before : List ℕ) where
-  -- a frame that is refused with k
-  pub open_refused : (k : ℕ) (answer : Opened) → first (open_order w receiver octets before) ≡ k → (k ≡ 0 → ⊥)
-      → answer ≡ record { refusal = k; number = cond (gives_number k) (candidate_of w receiver octets) 0; size = 0; receiver = receiver }
-      → Answered (open_call w receiver octets before) answer.refusal (answer.number ∷ answer.size ∷ []) (record { receiver = answer.receiver; output = before })
-  open_refused k answer named some is =
-      subst (λ (a : Opened). Answered (open_call w receiver octets before) a.refusal (a.number ∷ a.size ∷ []) (record { receiver = a.receiver; output = before })) (sym is)
-      (refused (open_call w receiver octets before) k named some)
-
   pub open_12 : receiver_can_arise w receiver ≡ false → first (open_order w receiver octets before) ≡ 12
   unfolding first open_order
   open_12 bad = simp bad

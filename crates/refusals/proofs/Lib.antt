@@ -2,6 +2,7 @@
 pub mod Among
 pub mod Calls
 pub mod Laws
+pub mod Number
 pub mod Orders
 pub mod Tests
 pub mod Within

@@ -1,3 +1,4 @@
 pub mod Refusal
 pub mod Call
 pub mod Among
+pub mod Number

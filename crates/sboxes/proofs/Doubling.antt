@@ -27,9 +27,6 @@ low_fits j k below = omega (arith, pow-suc 2 j, pow_mono {i = suc j} {j = k} bel
 pub high_fits : (k : ℕ) → k < 9 → 2 ^ k + 2 ^ k ≤ 512
 high_fits k below = omega (arith, pow-suc 2 k, pow_mono {i = suc k} {j = 9} below)
 
-pub twice : (k : ℕ) → 2 ^ k + 2 ^ k ≡ 2 ^ (k + 1)
-twice k = rw (add-one k) (omega (arith, pow-suc 2 k))
-
 -- ---- one test over the whole table
 
 -- the test holds of every number below n

@@ -1,8 +1,8 @@
 // The S-boxes S7 and S9 of TS 35.202. S7 is a table; S9 is computed.
 ghost use Rattle.std.specs.Prelude.{◌≡◌, ◌<◌};
-ghost use Rattle.sboxes.specs.Tables.{s7_table, s9 as Tables·s9};
+ghost use Rattle.sboxes.specs.Tables.{s9 as Tables·s9};
 
-const S7: [u16; 128] = [
+pub(crate) static S7: [u16; 128] = [
     54, 50, 62, 56, 22, 34, 94, 96, 38, 6, 63, 93, 2, 18, 123, 33, 55, 113, 39, 114, 21, 67, 65,
     12, 47, 73, 46, 27, 25, 111, 124, 81, 53, 9, 121, 79, 52, 60, 58, 48, 101, 127, 40, 120, 104,
     70, 71, 43, 20, 122, 72, 61, 23, 109, 13, 100, 77, 1, 16, 7, 82, 10, 105, 98, 117, 116, 76, 11,
@@ -54,11 +54,4 @@ pub(crate) fn s9(x: u16) -> u16
             ^ x7 & 0x069
             ^ 0x084);
     entry ^ 0x0A7
-}
-
-// S7, copied once for all its entries: a look-up in a constant would copy the whole of it each time.
-pub(crate) fn s7_table() -> [u16; 128]
-    ensures { result ≡ s7_table }
-{
-    S7
 }

@@ -5,7 +5,6 @@ mod boxes;
 
 ghost use Rattle.std.specs.Prelude.{◌≡◌, ◌++◌, ◌+◌, ◌^◌, ◌<◌, length, take};
 ghost use Rattle.octets.specs.Bits.{listed};
-ghost use Rattle.sboxes.specs.Tables.{s7_table};
 ghost use Rattle.sboxes.specs.FiTable.{entry_of_nine, entry_of_seven, fi_table, Filled};
 
 // The entry of nine bits: their S9, and its lowest seven bits.
@@ -18,34 +17,26 @@ fn entry_of_nine(a: u16) -> u16
 }
 
 // The entry of seven bits: these bits themselves, and their S7 xor them.
-fn entry_of_seven(sevens: &[u16; 128], b: u16) -> u16
-    requires { (sevens.now ≡ s7_table) × (b < 128) }
+fn entry_of_seven(b: u16) -> u16
+    requires { b < 128 }
     ensures { result ≡ entry_of_seven b }
 {
-    b * 128 + (sevens[b as usize] ^ b)
-}
-
-fn power(k: usize) -> usize
-    requires { k < 9 }
-    ensures { result ≡ 2 ^ k }
-{
-    1usize << k
+    b * 128 + (boxes::S7[b as usize] ^ b)
 }
 
 // Puts the entries from 2^k + 2^j on, as many again as 2^j. No equation of S9 has a product of three bits, so the bits k and j together add one and the
-// same number to an entry, whichever lower bits are set beside them (docs/S9.md).
+// same number to an entry, whichever lower bits are set beside them (docs/S9.md). How many entries stand already is held by no value, so each contract
+// says it, and no type.
 fn put_pair(k: usize, j: usize, table: &mut [u16; 640])
     requires { (j < k) × ((k < 9) × Filled (2 ^ k + 2 ^ j) table.old) }
     ensures { Filled (2 ^ k + (2 ^ j + 2 ^ j)) table.new }
 {
-    let high = power(k);
-    let low = power(j);
+    let high = 1 << k;
+    let low = 1 << j;
     let at = high + low;
     let number = entry_of_nine(at as u16) ^ table[high] ^ table[low] ^ table[0];
-    let mut i = 0;
-    while i < low {
+    for i in 0..low {
         table[at + i] = table[high + i] ^ table[low + i] ^ table[i] ^ number;
-        i += 1;
     }
 }
 
@@ -54,38 +45,29 @@ fn put_row(k: usize, table: &mut [u16; 640])
     requires { (k < 9) × Filled (2 ^ k) table.old }
     ensures { Filled (2 ^ k + 2 ^ k) table.new }
 {
-    let high = power(k);
+    let high = 1 << k;
     table[high] = entry_of_nine(high as u16);
-    let mut j = 0;
-    while j < k {
+    for j in 0..k {
         put_pair(k, j, table);
-        j += 1;
     }
 }
 
 // Puts the entries of nine bits to the front of the table, row by row of the triangle.
 fn put_nines(table: &mut [u16; 640])
-    requires { length table.old ≡ 640 }
     ensures { Filled 512 table.new }
 {
     table[0] = entry_of_nine(0);
-    let mut k = 0;
-    while k < 9 {
+    for k in 0..9 {
         put_row(k, table);
-        k += 1;
     }
 }
 
 // Puts the entries of seven bits after those of nine.
 fn put_sevens(table: &mut [u16; 640])
-    requires { length table.old ≡ 640 }
     ensures { table.new ≡ take 512 table.old ++ listed entry_of_seven 128 }
 {
-    let sevens = boxes::s7_table();
-    let mut b = 0;
-    while b < 128 {
-        table[512 + b] = entry_of_seven(&sevens, b as u16);
-        b += 1;
+    for b in 0..128 {
+        table[512 + b] = entry_of_seven(b as u16);
     }
 }
 

@@ -28,5 +28,4 @@ pub enum Asked {
     StoreCell,
     CutCell,
     RestartCell,
-    Bad(Why),
 }

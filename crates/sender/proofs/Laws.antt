@@ -7,6 +7,7 @@ use mathlib.Core.Bool.{true, false, and-eq-true_iff}
 use mathlib.Core.List.{List, [], ◌∷◌}
 use mathlib.Mathlib.Data.Bool.Basic.{or-eq-false-eq-eq-false-and-eq-false}
 use borrow.Author.Tests.{le-leb, leb-true, leb-false, ltb-false, eqb-false, not-true, not-false}
+use lib.Dec.{eqb, ltb}
 use lib.ListN.{length}
 use Rattle.refusals.specs.Refusal.{first, row_at}
 use Rattle.refusals.specs.Call.{Answered, front}
@@ -49,7 +50,7 @@ unfolding seal_order row_at is_payload
 seal_done sender payload before {number} {size} {later} {after} answered =
     let passed : (k : ℕ) → (row_at (seal_order sender payload before) k).holds ≡ false = ((determined (seal_call sender payload before) tt).refuses answered).none.0 refl in
     let good : sender_can_arise sender ≡ true = not-false _ (passed 0) in
-    let sizes = (or-eq-false-eq-eq-false-and-eq-false _ _).0 (not-true _ (not-false _ (passed 1))) in
+    let sizes : (eqb (length payload) 0 ≡ false) × (ltb 1520 (length payload) ≡ false) = (or-eq-false-eq-eq-false-and-eq-false _ _).0 (not-true _ (not-false _ (passed 1))) in
     let told = answered.numbers_are in
     record {
       good = good;

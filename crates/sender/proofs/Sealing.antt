@@ -2,16 +2,15 @@
 -- Assumes nothing.
 use Prim.Native.Nat.{ℕ, ◌+◌, ◌-◌, ◌≤◌, ◌<◌}
 use native.Mathlib.Omega.{arith}
-use mathlib.Core.Path.{◌≡◌, sym, ap, ap₂, subst, ◌∙◌}
+use mathlib.Core.Path.{◌≡◌, sym, ap, ◌∙◌}
 use mathlib.Core.Bool.{true, false, and-eq-true_iff}
-use mathlib.Core.List.{List, [], ◌∷◌, ◌++◌, append-nil, append_assoc}
+use mathlib.Core.List.{List, [], ◌++◌, append-nil, append_assoc}
 use borrow.Author.Tests.{eq-eqb, ne_eqb, lt-ltb, le-ltb, le-leb, lt-leb, leb-true}
 use borrow.Rule.Slice.PartMut.{mid_of, put_mid, mid_len}
-use lib.ListN.{length, take, drop, length-append, length-drop, drop_of_length-le}
+use lib.ListN.{length, drop, length-append, length-drop, drop_of_length-le}
 use lib.Seq.{take_at, drop_at, drop-drop}
 use Rattle.refusals.specs.Refusal.{first}
-use Rattle.refusals.specs.Call.{Answered, front}
-use Rattle.refusals.proofs.Calls.{refused}
+use Rattle.refusals.specs.Call.{front}
 use Rattle.numbering.specs.Numbering.{end}
 use Rattle.frames.specs.Frame.{header_octets, frame}
 use Rattle.frames.proofs.ReadBack.{length-header}
@@ -19,8 +18,7 @@ use Rattle.link.specs.declared.Link.{Link}
 use Rattle.link.specs.Link.{link_can_arise, is_payload, ciphered, header_at, frame_at}
 use Rattle.link.proofs.Frames.{length-ciphered, length-frame_at}
 use Rattle.sender.specs.declared.Sender.{Sender}
-use Rattle.sender.specs.declared.Sealed.{Sealed}
-use Rattle.sender.specs.Sender.{sender_can_arise, seal_order, seal_call}
+use Rattle.sender.specs.Sender.{sender_can_arise, seal_order}
 
 -- a sender that can arise, as facts
 pub record SenderSays (sender : Sender) : Type 0 where
@@ -42,7 +40,14 @@ pub says_sender : (sender : Sender) → SenderSays sender → sender_can_arise s
 unfolding sender_can_arise
 says_sender sender says = simp (says.link_can, le-leb _ _ says.before_end, le-leb _ _ says.within, le-leb _ _ says.near)
 
--- where the head of a buffer was written first, and then the part after it, both stand at its front
+-- where a head stands at the front of a buffer, and a part is put after it, both stand there
+pub put_next : (head body before : List ℕ) {now part : List ℕ} (at n : ℕ) → now ≡ head ++ drop at before → part ≡ body → length head ≡ at
+    → put_mid at n now part ≡ (head ++ body) ++ drop (at + n) before
+put_next head body before at n is put long =
+    rw (is, put, take_at head (drop at before) at long, drop_at head (drop at before) at long, drop-drop n at before)
+    (sym (append_assoc head body (drop (at + n) before)))
+
+-- the same where the part was as long as the body before that was put to its front
 two_parts : (head body before now part : List ℕ) (at size : ℕ) → length head ≡ at → now ≡ head ++ drop at before
     → size ≡ at + length body → size ≤ length before → part ≡ body ++ drop (length body) (mid_of at (size - at) now)
     → put_mid at (size - at) now part ≡ (head ++ body) ++ drop size before
@@ -50,13 +55,8 @@ two_parts head body before now part at size long is total room put =
     let kept : length now ≡ length before = ap length is ∙ length-append head (drop at before) ∙ omega (arith, length-drop at before) in
     let filled : drop (length body) (mid_of at (size - at) now) ≡ [] =
     drop_of_length-le (mid_of at (size - at) now) {i = length body} (omega (arith, mid_len at size now (omega arith))) in
-    ap₂ (λ (l r : List ℕ). l ++ (part ++ drop (size - at) r))
-    (ap (take at) is ∙ take_at head (drop at before) at long)
-    (ap (drop at) is ∙ drop_at head (drop at before) at long)
-    ∙ ap₂ (λ (l r : List ℕ). head ++ (l ++ r))
-    (put ∙ ap (λ (l : List ℕ). body ++ l) filled ∙ append-nil body)
-    (drop-drop (size - at) at before ∙ ap (λ (k : ℕ). drop k before) {x = at + (size - at)} {y = size} (omega arith))
-    ∙ sym (append_assoc head body (drop size before))
+    put_next head body before at (size - at) is (put ∙ ap (λ (l : List ℕ). body ++ l) filled ∙ append-nil body) long
+    ∙ ap (λ (k : ℕ). (head ++ body) ++ drop k before) {x = at + (size - at)} {y = size} (omega arith)
 
 -- a frame: its header first, then its payload, ciphered
 pub frame_written : (link : Link) (n : ℕ) (payload before headed part : List ℕ)
@@ -75,14 +75,6 @@ frame_written link n payload before headed part is room put =
     ∙ ap (λ (k : ℕ). frame_at link n payload ++ drop k before) (sym (length-frame_at link n payload))
 
 module _ (sender : Sender) (payload before : List ℕ) where
-  -- a seal that is refused with k
-  pub seal_refused : (k : ℕ) (answer : Sealed) → first (seal_order sender payload before) ≡ k → (k ≡ 0 → ⊥)
-      → answer ≡ record { refusal = k; number = 0; size = 0; sender = sender }
-      → Answered (seal_call sender payload before) answer.refusal (answer.number ∷ answer.size ∷ []) (record { sender = answer.sender; output = before })
-  seal_refused k answer named some is =
-      subst (λ (a : Sealed). Answered (seal_call sender payload before) a.refusal (a.number ∷ a.size ∷ []) (record { sender = a.sender; output = before })) (sym is)
-      (refused (seal_call sender payload before) k named some)
-
   pub seal_12 : sender_can_arise sender ≡ false → first (seal_order sender payload before) ≡ 12
   unfolding first seal_order
   seal_12 bad = simp bad

@@ -1,13 +1,17 @@
-// The sending end of a link. A state goes in by value and comes back.
+// The sending end of a link. A call that is refused leaves it as it is.
 #![tactic(auto)]
 
 ghost use Rattle.std.specs.Prelude.{◌≡◌, true, [], ◌∷◌, ◌+◌, ◌≤◌, ◌<◌, length};
+ghost use Rattle.std.specs.Result.{result_unwrap_or};
+ghost use Rattle.refusals.specs.Number.{refusal_of};
 ghost use Rattle.refusals.specs.Call.{Answered, front};
-ghost use Rattle.link.specs.Link.{link_can_arise, frame_at};
-ghost use Rattle.sender.specs.Sender.{open_sender_call, sender_can_arise, is_reservation, reserve_call, seal_call};
+ghost use Rattle.link.specs.Link.{link_can_arise, no_link, frame_at};
+ghost use Rattle.sender.specs.Sender.{new_sender, open_sender_call, sender_can_arise, is_reservation, reserve_call, seal_call};
+ghost use Rattle.sender.specs.Sealed.{number_in, size_in};
 
 use frames::Header;
 use link::Link;
+use refusals::Refusal;
 
 // How far above the next number a reservation may lie.
 pub const AHEAD: u32 = 64;
@@ -20,109 +24,61 @@ pub struct Sender {
     pub reserved: u32,
 }
 
-// The answer to opening a sender, or to making one from its stored form.
-#[derive(Clone, Copy)]
-pub struct OpenedSender {
-    pub refusal: u8,
-    pub sender: Sender,
-}
-
-// The answer to telling a sender a reservation.
-#[derive(Clone, Copy)]
-pub struct Reserved {
-    pub refusal: u8,
-    pub sender: Sender,
-}
-
-// The answer to sealing: the frame's number and its length, and the sender afterwards.
-#[derive(Clone, Copy)]
+// A sealed frame: its number and its length.
+#[derive(Clone, Copy, Debug, PartialEq, Eq)]
 pub struct Sealed {
-    pub refusal: u8,
     pub number: u32,
     pub size: usize,
-    pub sender: Sender,
 }
 
 // Opens a sender, whose first frame has number 0. It seals nothing until it is told a reservation.
-pub fn open_sender(key: &[u8], iov: u32, sapi: u8, direction: u8) -> OpenedSender
-    ensures { Answered (open_sender_call key.now iov sapi direction) result.refusal [] result.sender }
+pub fn open_sender(key: &[u8], iov: u32, sapi: u8, direction: u8) -> Result<Sender, Refusal>
+    ensures { Answered (open_sender_call key.now iov sapi direction) (refusal_of result) [] (result_unwrap_or result (new_sender no_link)) }
 {
-    let opened = link::open_link(key, iov, sapi, direction);
-    let link = opened.link;
-    OpenedSender {
-        refusal: opened.refusal,
-        sender: Sender {
-            link,
-            next: 0,
-            reserved: 0,
-        },
-    }
+    let link = link::open_link(key, iov, sapi, direction)?;
+    Ok(Sender {
+        link,
+        next: 0,
+        reserved: 0,
+    })
 }
 
 // A sender that can arise.
+#[tactic(auto, unfolding(numbering::specs::Numbering::end, crate::specs::Sender::sender_can_arise))]
 pub fn can_arise(sender: Sender) -> bool
     ensures { result ≡ sender_can_arise sender }
 {
-    let link = sender.link;
-    let next = sender.next;
-    let reserved = sender.reserved;
-    if numbering::END < reserved {
-        return false;
-    }
-    if reserved < next {
-        return false;
-    }
-    link::can_arise(link) & (reserved - next <= AHEAD)
+    link::can_arise(sender.link)
+        && sender.reserved <= numbering::END
+        && sender.next <= sender.reserved
+        && sender.reserved - sender.next <= AHEAD
 }
 
 // A reservation that a sender may be told: not lower than its present one, not too far above its next number, and not past the end.
+#[tactic(auto, unfolding(numbering::specs::Numbering::end, crate::specs::Sender::sender_can_arise, crate::specs::Sender::is_reservation))]
 fn is_reservation(sender: Sender, reserved: u32) -> bool
     requires { sender_can_arise sender ≡ true }
     ensures { result ≡ is_reservation sender reserved }
 {
-    (sender.reserved <= reserved)
-        & ((reserved <= sender.next + AHEAD) & (reserved <= numbering::END))
+    (sender.reserved..=sender.next + AHEAD).contains(&reserved) && reserved <= numbering::END
 }
 
 // Tells a sender the reservation that was stored last, before another is stored.
-pub fn reserve(sender: Sender, reserved: u32) -> Reserved
-    ensures { Answered (reserve_call sender reserved) result.refusal [] result.sender }
+#[tactic(auto, unfolding(refusals::specs::Refusal::first, crate::specs::Sender::reserve_order, crate::specs::Sender::with_reservation))]
+pub fn reserve(sender: &mut Sender, reserved: u32) -> Result<(), Refusal>
+    ensures { Answered (reserve_call sender.old reserved) (refusal_of result) [] sender.new }
 {
-    if !can_arise(sender) {
-        return Reserved {
-            refusal: refusals::STATE,
-            sender,
-        };
+    if !can_arise(*sender) {
+        return Err(Refusal::State);
     }
-    if !is_reservation(sender, reserved) {
-        return Reserved {
-            refusal: refusals::RANGE,
-            sender,
-        };
+    if !is_reservation(*sender, reserved) {
+        return Err(Refusal::Range);
     }
-    let link = sender.link;
-    Reserved {
-        refusal: 0,
-        sender: Sender {
-            link,
-            next: sender.next,
-            reserved,
-        },
-    }
+    sender.reserved = reserved;
+    Ok(())
 }
 
-fn not_sealed(sender: Sender, refusal: u8) -> Sealed
-    ensures { result ≡ record { refusal = refusal; number = 0; size = 0; sender = sender } }
-{
-    Sealed {
-        refusal,
-        number: 0,
-        size: 0,
-        sender,
-    }
-}
-
-// The frame of a number, at the front of an output that has room for it.
+// The frame of a number, at the front of an output that has room for it. Neither call is refused: the header is in range, and so is the payload's size.
 fn write_frame(link: Link, number: u32, payload: &[u8], output: &mut [u8])
     requires link_value { link_can_arise link ≡ true }
     requires payload_nonzero { (0 < length payload.now) × ((length payload.now ≤ 1520) × (length payload.now + 6 ≤ length output.old)) }
@@ -134,46 +90,33 @@ fn write_frame(link: Link, number: u32, payload: &[u8], output: &mut [u8])
         direction: link.direction,
         sent: number % 512,
     };
-    frames::put_header(header, payload.len(), output);
-    link::cipher(link, number, payload, &mut output[frames::HEADER_SIZE..end]);
+    frames::put_header(header, payload.len(), output).unwrap();
+    link::cipher(link, number, payload, &mut output[frames::HEADER_SIZE..end]).unwrap();
 }
 
 // Seals a payload into the frame of the sender's next number, which has to be below the reservation.
-pub fn seal(sender: Sender, payload: &[u8], output: &mut [u8]) -> Sealed
-    ensures { Answered (seal_call sender payload.now output.old) result.refusal (result.number ∷ result.size ∷ []) (record { sender = result.sender; output = output.new }) }
+#[tactic(auto, unfolding(refusals::specs::Refusal::first, numbering::specs::Numbering::end, link::specs::Link::is_payload, crate::specs::Sender::seal_order, crate::specs::Sender::after_frame))]
+pub fn seal(sender: &mut Sender, payload: &[u8], output: &mut [u8]) -> Result<Sealed, Refusal>
+    ensures { Answered (seal_call sender.old payload.now output.old) (refusal_of result) (number_in result ∷ size_in result ∷ []) (record { sender = sender.new; output = output.new }) }
 {
-    if !can_arise(sender) {
-        return not_sealed(sender, refusals::STATE);
+    if !can_arise(*sender) {
+        return Err(Refusal::State);
     }
-    if payload.len() == 0 {
-        return not_sealed(sender, refusals::SIZE);
-    }
-    if frames::MOST_PAYLOAD < payload.len() {
-        return not_sealed(sender, refusals::SIZE);
+    if payload.is_empty() || frames::MOST_PAYLOAD < payload.len() {
+        return Err(Refusal::Size);
     }
     let number = sender.next;
     if number == numbering::END {
-        return not_sealed(sender, refusals::END);
+        return Err(Refusal::End);
     }
-    let reserved = sender.reserved;
-    if reserved <= number {
-        return not_sealed(sender, refusals::RESERVE);
+    if sender.reserved <= number {
+        return Err(Refusal::Reserve);
     }
-    let link = sender.link;
-    let later = Sender {
-        link,
-        next: number + 1,
-        reserved,
-    };
     let size = payload.len() + frames::HEADER_SIZE;
     if output.len() < size {
-        return not_sealed(sender, refusals::ROOM);
+        return Err(Refusal::Room);
     }
-    write_frame(link, number, payload, output);
-    Sealed {
-        refusal: 0,
-        number,
-        size,
-        sender: later,
-    }
+    write_frame(sender.link, number, payload, output);
+    sender.next = number + 1;
+    Ok(Sealed { number, size })
 }

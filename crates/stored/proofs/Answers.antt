@@ -1,26 +1,22 @@
 -- What storing and restoring answer, cause by cause.
 -- Assumes nothing.
 use Prim.Native.Nat.{ℕ, ◌≤◌, ◌<◌}
-use mathlib.Core.Path.{◌≡◌, refl, sym, subst, ◌∙◌}
+use mathlib.Core.Path.{◌≡◌, refl, ◌∙◌}
 use mathlib.Core.Bool.{Bool, true, false, cond, not}
 use mathlib.Core.List.{List, [], ◌∷◌, ◌++◌}
 use borrow.Author.Tests.{eq-eqb, ne_eqb, lt-ltb, le-ltb}
 use lib.Dec.{eqb, ltb}
 use lib.ListN.{length}
 use Rattle.refusals.specs.Refusal.{Row, first}
-use Rattle.refusals.specs.Call.{Answered}
 use Rattle.refusals.proofs.Laws.{first_append}
-use Rattle.refusals.proofs.Calls.{refused}
 use Rattle.keystreams.specs.Key.{is_key}
-use Rattle.link.specs.Link.{link_order, no_link}
+use Rattle.link.specs.Link.{link_order}
 use Rattle.sender.specs.declared.Sender.{Sender}
-use Rattle.sender.specs.declared.OpenedSender.{OpenedSender}
-use Rattle.sender.specs.Sender.{new_sender, reserve_order}
+use Rattle.sender.specs.Sender.{reserve_order}
 use Rattle.receiver.specs.declared.Receiver.{Receiver}
-use Rattle.receiver.specs.declared.OpenedReceiver.{OpenedReceiver}
-use Rattle.receiver.specs.Receiver.{new_receiver, receiver_can_arise}
+use Rattle.receiver.specs.Receiver.{receiver_can_arise}
 use Rattle.stored.specs.Form.{form_size, form_order}
-use Rattle.stored.specs.Ends.{store_sender_order, restore_sender_order, restore_sender_call, store_receiver_order, restore_receiver_order, restore_receiver_call}
+use Rattle.stored.specs.Ends.{store_sender_order, store_receiver_order}
 
 -- ---- storing: past the refusals of the end itself, the room decides
 
@@ -79,16 +75,3 @@ module _ (words : ℕ) (octets : List ℕ) (can : Bool) where
 pub no_key : first (link_order [] 0 0) ≡ 1
 unfolding first link_order is_key
 no_key = refl
-
--- an end that is refused with k
-pub sender_refused : (octets : List ℕ) (k : ℕ) (answer : OpenedSender) → first (restore_sender_order octets) ≡ k → (k ≡ 0 → ⊥)
-    → answer ≡ record { refusal = k; sender = new_sender no_link } → Answered (restore_sender_call octets) answer.refusal [] answer.sender
-sender_refused octets k answer named some is =
-    subst (λ (a : OpenedSender). Answered (restore_sender_call octets) a.refusal [] a.sender) (sym is)
-    (refused (restore_sender_call octets) k named some)
-
-pub receiver_refused : (w : ℕ) (octets : List ℕ) (k : ℕ) (answer : OpenedReceiver) → first (restore_receiver_order w octets) ≡ k → (k ≡ 0 → ⊥)
-    → answer ≡ record { refusal = k; receiver = new_receiver no_link } → Answered (restore_receiver_call w octets) answer.refusal [] answer.receiver
-receiver_refused w octets k answer named some is =
-    subst (λ (a : OpenedReceiver). Answered (restore_receiver_call w octets) a.refusal [] a.receiver) (sym is)
-    (refused (restore_receiver_call w octets) k named some)

@@ -11,7 +11,7 @@ use Rattle.frames.specs.Frame.{pair}
 use Rattle.link.specs.declared.Link.{Link}
 use Rattle.stored.specs.Form.{quad, quads, form}
 
-length-quads : (words : List ℕ) → length (quads words) ≡ 4 * length words
+pub length-quads : (words : List ℕ) → length (quads words) ≡ 4 * length words
 unfolding quad quads
 length-quads [] = refl
 length-quads (word ∷ rest) = omega (arith, length-quads rest)

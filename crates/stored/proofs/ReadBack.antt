@@ -33,6 +33,9 @@ module _ (version words : ℕ) (octets : List ℕ) where
       let long = (and-eq-true_iff _ _).0 (not-false _ (passed 0)) in
       record { length_is = eqb-true _ _ long.0; field_is = eqb-true _ _ long.1; version_is = eqb-true _ _ (not-false _ (passed 1)) }
 
+  pub form_long : first (form_order version words octets) ≡ 0 → length octets ≡ form_size words
+  form_long nothing = (read_formed nothing).length_is
+
   pub formed_read : Formed version words octets → first (form_order version words octets) ≡ 0
   unfolding first form_order is_form_long
   formed_read formed = simp (eq-eqb _ _ formed.length_is, eq-eqb _ _ formed.field_is, eq-eqb _ _ formed.version_is)

@@ -8,6 +8,8 @@ use mathlib.Core.List.{List, [], ◌∷◌}
 use borrow.Author.Tests.{eq-eqb, ne_eqb}
 use lib.Dec.{eqb, lit≤}
 use lib.ListN.{length, take, length-take}
+use Rattle.std.specs.Prelude.{Some, None}
+use Rattle.std.proofs.lemmas.Option.{none-some, cond_some}
 use Rattle.refusals.proofs.Tests.{by-test}
 use Rattle.lines.specs.Text.{ended, hex_text, decimal_text}
 use Rattle.lines.specs.Hearing.{too_long}
@@ -15,42 +17,40 @@ use Rattle.lines.proofs.Hearing.{LongAlike, line_alike}
 use Rattle.lines.proofs.InDecimal.{length-decimal_text}
 use Rattle.lines.proofs.Text.{length-ended, length_either, length-hex_text}
 use Rattle.stream.specs.declared.form.Request.{Request}
-use Rattle.stream.specs.Form.{is_request, asked, nothing_asked, request_of}
+use Rattle.stream.specs.Form.{is_request, asked, request_of}
 use Rattle.stream.specs.Answer.{outcome_of, request_text, answer_text, largest_answer}
 use Rattle.stream.specs.Stream.{stream_rules}
 use Rattle.stream.proofs.Parts.{parts_of, not_accepted}
 
--- ---- whether a line is of the form is told by what it asks
+-- ---- what a line asks decides its answer
 
 module _ (line : List ℕ) where
-  request_ok : (request_of line).ok ≡ is_request line
-  unfolding request_of asked nothing_asked
-  request_ok = by-test (is_request line) _ (λ accepted. rw accepted) (λ refused. rw refused)
-
-  -- nothing asked: `?`
-  not_asked : (request_of line).ok ≡ false → answer_text line ≡ 63 ∷ []
+  -- a line of the form: what is answered goes by what it asks, whose M is at most 1,520
+  accepted_answer : is_request line ≡ true → answer_text line ≡ request_text (asked line)
   unfolding answer_text
-  not_asked none = rw (sym request_ok ∙ none)
+  accepted_answer accepted = rw accepted
 
-  -- a request: what is answered goes by it, and its M is at most 1,520
-  request_answer : (request_of line).ok ≡ true → answer_text line ≡ request_text (request_of line)
-  unfolding answer_text request_of
-  request_answer some = rw (sym request_ok ∙ some)
+  accepted_limit : is_request line ≡ true → (asked line).m ≤ 1520
+  unfolding asked
+  accepted_limit accepted = (parts_of line accepted).m_limit
 
-  request_limit : (request_of line).ok ≡ true → (request_of line).m ≤ 1520
-  unfolding request_of asked
-  request_limit some = rw (sym request_ok ∙ some) (parts_of line (sym request_ok ∙ some)).m_limit
+  -- any other: `?`
+  refused_answer : is_request line ≡ false → answer_text line ≡ 63 ∷ []
+  unfolding answer_text
+  refused_answer refused = rw refused
 
--- the same of a request that was read off the line
-module _ (line : List ℕ) {request : Request} (is : request ≡ request_of line) where
-  pub read_nothing : request.ok ≡ false → answer_text line ≡ 63 ∷ []
-  read_nothing none = not_asked line (ap (λ (r : Request). r.ok) (sym is) ∙ none)
+  -- the same by what was read off the line
+  pub read_nothing : request_of line ≡ None → answer_text line ≡ 63 ∷ []
+  unfolding request_of
+  read_nothing none = refused_answer (by-test (is_request line) _ (λ accepted. absurd (none-some (asked line) (sym none ∙ rw accepted))) (λ refused. refused))
 
-  pub read_answer : request.ok ≡ true → answer_text line ≡ request_text request
-  read_answer some = request_answer line (ap (λ (r : Request). r.ok) (sym is) ∙ some) ∙ ap request_text (sym is)
+  pub read_answer : {request : Request} → request_of line ≡ Some request → answer_text line ≡ request_text request
+  unfolding request_of
+  read_answer is = let read = cond_some _ _ _ is in accepted_answer read.0 ∙ ap request_text read.1
 
-  pub read_limit : request.ok ≡ true → request.m ≤ 1520
-  read_limit some = subst (λ (r : Request). r.m ≤ 1520) (sym is) (request_limit line (ap (λ (r : Request). r.ok) (sym is) ∙ some))
+  pub read_limit : {request : Request} → request_of line ≡ Some request → request.m ≤ 1520
+  unfolding request_of
+  read_limit is = let read = cond_some _ _ _ is in subst (λ (r : Request). r.m ≤ 1520) read.1 (accepted_limit read.0)
 
 -- ---- the answer to a request
 
@@ -79,9 +79,9 @@ too_long_lem line long = rw (not_accepted line (λ parts. omega arith))
 -- every text of an answer has at most 3,040 octets
 pub length-answer_text : (line : List ℕ) → length (answer_text line) ≤ 3040
 length-answer_text line =
-    by-test (request_of line).ok _
-    (λ some. rw (request_answer line some) (length-request_text (request_of line) (request_limit line some)))
-    (λ none. rw (not_asked line none) (lit≤ tt))
+    by-test (is_request line) _
+    (λ accepted. rw (accepted_answer line accepted) (length-request_text (asked line) (accepted_limit line accepted)))
+    (λ refused. rw (refused_answer line refused) (lit≤ tt))
 
 -- ---- the rules of `stream`
 

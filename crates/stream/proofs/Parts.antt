@@ -5,6 +5,7 @@ use native.Mathlib.Omega.{arith}
 use mathlib.Core.Path.{◌≡◌, ap, subst, ◌∙◌}
 use mathlib.Core.Bool.{true, false}
 use mathlib.Core.List.{List}
+use Rattle.std.specs.Prelude.{Some, None}
 use borrow.Author.Tests.{eq-eqb, eqb-true, le-leb, leb-true}
 use lib.ListN.{length, get_or, take, drop, length-drop}
 use lib.Seq.{length-take-le}
@@ -15,7 +16,7 @@ use Rattle.lines.specs.Text.{hex_octets, is_hex}
 use Rattle.lines.proofs.Digits.{within_both, within_from, within_to, number_below, number_of_digits, number_size, number_digits}
 use Rattle.lines.proofs.Form.{every_at}
 use Rattle.lines.proofs.Text.{length-hex_octets, hex_of_digits}
-use Rattle.stream.specs.Form.{m_size, m_text, key_text, input_text, direction_text, request_tests, is_request, nothing_asked, request_of, asked}
+use Rattle.stream.specs.Form.{m_size, m_text, key_text, input_text, direction_text, request_tests, is_request, request_of, asked}
 
 -- what the test of the form says, part by part
 pub record Parts (line : List ℕ) : Type 0 where
@@ -76,11 +77,11 @@ module _ (line : List ℕ) where
   pub not_accepted : (Parts line → ⊥) → is_request line ≡ false
   not_accepted wrong = by-test (is_request line) _ (λ accepted. absurd (wrong (parts_of accepted))) (λ refused. refused)
 
-  pub nothing_asked_lem : (Parts line → ⊥) → nothing_asked ≡ request_of line
+  pub nothing_asked : (Parts line → ⊥) → None ≡ request_of line
   unfolding request_of
-  nothing_asked_lem wrong = rw (not_accepted wrong)
+  nothing_asked wrong = rw (not_accepted wrong)
 
-  pub parts_asked : Parts line → asked line ≡ request_of line
+  pub parts_asked : Parts line → Some (asked line) ≡ request_of line
   unfolding request_of
   parts_asked parts = rw (of_parts parts)
 
@@ -136,7 +137,7 @@ input_part line =
 
 pub asked_by_values : (line : List ℕ) (m : ℕ) (key : List ℕ) (input : ℕ) → Parts line
     → m ≡ value_of 10 (m_text line) → key ≡ hex_octets (key_text line) → input ≡ value_of 16 (input_text line)
-    → record { ok = true; m = m; key = key; input = input; direction = direction_text line - 48 } ≡ request_of line
+    → Some (record { m = m; key = key; input = input; direction = direction_text line - 48 }) ≡ request_of line
 unfolding asked
 asked_by_values line m key input parts e-m e-key e-input =
-    (λ i. record { ok = true; m = e-m i; key = e-key i; input = e-input i; direction = direction_text line - 48 }) ∙ parts_asked line parts
+    (λ i. Some (record { m = e-m i; key = e-key i; input = e-input i; direction = direction_text line - 48 })) ∙ parts_asked line parts

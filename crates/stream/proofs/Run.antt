@@ -1,4 +1,4 @@
--- A run of the calls writes what `stream` is to write: `start`, `hear` for each octet of the input, then `finish`.
+-- A run of the calls of the crate `lines` writes what `stream` is to write: from silence on, `hear` for each octet of the input, then `finish`.
 -- Assumes nothing.
 use Prim.Native.Nat.{ℕ}
 use mathlib.Core.Path.{◌≡◌}
@@ -11,7 +11,7 @@ use Rattle.stream.specs.Answer.{answer_text, largest_answer}
 use Rattle.stream.specs.Stream.{stream_rules, stream_output}
 use Rattle.stream.proofs.Answers.{stream_alike}
 
--- the whole run, from `start`, whose line is silence, writes what `stream` is to write
+-- the whole run, from silence on, writes what `stream` is to write
 pub run_writes_stream : {heard : Heard} {input output : List ℕ} → heard ≡ silence → Run stream_rules (standing heard) input output → output ≡ stream_output input
 unfolding stream_output
 run_writes_stream = run_by_lines answer_text largest_answer stream_alike

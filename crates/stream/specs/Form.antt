@@ -1,6 +1,6 @@
 -- The form of a line of `stream` (document 01, "Examples to hold on to"): M, one to four decimal digits with a value up to 1,520; the key, 32 hex
 -- digits of either case; INPUT, 8 hex digits; the direction, `0` or `1`; one space between, and nothing else. Assumes nothing.
-use Rattle.std.specs.Prelude.{ℕ, ◌+◌, ◌-◌, ◌≤◌, ◌≡◌, Bool, true, false, cond, List, [], ◌∷◌, ◌++◌, eqb, leb, length, get_or, take, drop, replicate}
+use Rattle.std.specs.Prelude.{ℕ, ◌+◌, ◌-◌, ◌≤◌, ◌≡◌, Bool, true, cond, List, [], ◌∷◌, ◌++◌, Option, Some, None, eqb, leb, length, get_or, take, drop}
 use Rattle.lines.specs.Digits.{within, all_digits, value_of, is_number}
 use Rattle.lines.specs.Form.{every}
 use Rattle.lines.specs.Text.{hex_octets}
@@ -56,17 +56,12 @@ is_request line = every (request_tests line)
 -- what a line of the form asks
 unfoldable pub asked : List ℕ → Request
 asked line = record {
-  ok = true;
   m = value_of 10 (m_text line);
   key = hex_octets (key_text line);
   input = value_of 16 (input_text line);
   direction = direction_text line - 48;
 }
 
--- a line not of the form asks nothing
-unfoldable pub nothing_asked : Request
-nothing_asked = record { ok = false; m = 0; key = replicate 16 0; input = 0; direction = 0 }
-
--- what a line asks
-unfoldable pub request_of : List ℕ → Request
-request_of line = cond (is_request line) (asked line) nothing_asked
+-- what a line asks: nothing, where it is not of the form
+unfoldable pub request_of : List ℕ → Option Request
+request_of line = cond (is_request line) (Some (asked line)) None

@@ -8,71 +8,59 @@ const AFTER_M: usize = 44;
 // The largest M that a line can ask.
 const M_LIMIT: u64 = 1520;
 
-// What a line asks; all is zero where the line is not of the form.
+// What a line asks.
 #[derive(Clone, Copy)]
 pub(crate) struct Request {
-    pub ok: bool,
     pub m: u32,
     pub key: [u8; 16],
     pub input: u32,
     pub direction: u8,
 }
 
-// What a line asks.
-pub(crate) fn request_of(line: &[u8]) -> Request
+// What a line asks, where it is of the form.
+pub(crate) fn request_of(line: &[u8]) -> Option<Request>
     ensures { result ≡ request_of line.now }
 {
-    let nothing = Request {
-        ok: false,
-        m: 0,
-        key: [0; 16],
-        input: 0,
-        direction: 0,
-    };
     if line.len() < AFTER_M + 1 {
-        return nothing;
+        return None;
     }
     if AFTER_M + 4 < line.len() {
-        return nothing;
+        return None;
     }
     let size = line.len() - AFTER_M;
     if line[size] != b' ' {
-        return nothing;
+        return None;
     }
     if line[size + 33] != b' ' {
-        return nothing;
+        return None;
     }
     if line[size + 42] != b' ' {
-        return nothing;
+        return None;
     }
-    let m = lines::decimal(&line[..size]);
-    if m.refusal != 0 {
-        return nothing;
-    }
-    if M_LIMIT < m.value {
-        return nothing;
+    let Ok(m) = lines::decimal(&line[..size]) else {
+        return None;
+    };
+    if M_LIMIT < m {
+        return None;
     }
     let mut key = [0u8; 16];
-    let key_put = lines::octets_of_hex(&line[size + 1..size + 33], &mut key);
-    if key_put.refusal != 0 {
-        return nothing;
-    }
-    let input = lines::hexadecimal(&line[size + 34..size + 42]);
-    if input.refusal != 0 {
-        return nothing;
-    }
+    let Ok(_) = lines::octets_of_hex(&line[size + 1..size + 33], &mut key) else {
+        return None;
+    };
+    let Ok(input) = lines::hexadecimal(&line[size + 34..size + 42]) else {
+        return None;
+    };
     let direction = line[size + 43];
     if direction < b'0' {
-        return nothing;
+        return None;
     }
     if b'1' < direction {
-        return nothing;
+        return None;
     }
-    Request {
-        ok: true,
-        m: m.value as u32,
+    Some(Request {
+        m: m as u32,
         key,
-        input: input.value as u32,
+        input: input as u32,
         direction: direction - b'0',
-    }
+    })
 }

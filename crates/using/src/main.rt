@@ -4,7 +4,8 @@
 ghost use Rattle.std.specs.Prelude.{◌≤◌, IfOk, length};
 
 use receiver::{Opened, Receiver};
-use sender::{OpenedSender, Sealed, Sender};
+use refusals::{Refusal, Refused};
+use sender::{Sealed, Sender};
 use std::io;
 
 // What both ends are opened with. An example: a key that is to keep a secret is not written into a program.
@@ -16,158 +17,143 @@ const SAPI: u8 = 3;
 
 const DIRECTION: u8 = 0;
 
-// Writes a number between two texts.
-fn tell(rt: HostRuntime, before: &[u8], number: u64, after: &[u8]) -> io::Result<()> {
-    rt.write_all(before)?;
-    rt.print(number)?;
-    rt.write_all(after)
+// What a phone stores.
+type Form = [u8; stored::SENDER_SIZE];
+
+// Why a text did not go out, or the program ends early: a call was refused, or nothing could be written.
+#[derive(Debug, Drop)]
+enum Failure {
+    Refused(Refusal),
+    Host(io::Error),
+}
+
+impl From<Refusal> for Failure {
+    fn from(refusal: Refusal) -> Failure {
+        Failure::Refused(refusal)
+    }
+}
+
+impl From<io::Error> for Failure {
+    fn from(error: io::Error) -> Failure {
+        Failure::Host(error)
+    }
+}
+
+// The sender of a phone, and its disk, for which a field stands: it takes a form whole or not at all.
+#[derive(Drop)]
+struct Phone {
+    sender: Sender,
+    disk: Form,
+}
+
+impl Phone {
+    // The phone at its first start, when no form was ever stored.
+    fn open() -> Result<Phone, Refusal> {
+        let sender = sender::open_sender(&KEY, IOV, SAPI, DIRECTION)?;
+        Ok(Phone {
+            sender,
+            disk: [0; stored::SENDER_SIZE],
+        })
+    }
+
+    // The phone at a later start, made from the form that was stored last.
+    fn restore(disk: Form) -> Result<Phone, Refusal> {
+        let sender = stored::restore_sender(&disk)?;
+        Ok(Phone { sender, disk })
+    }
+
+    // Stores a higher reservation, and only then tells it to the sender.
+    fn reserve(&mut self, rt: HostRuntime) -> Result<(), Failure> {
+        let reserved = highest(self.sender.next);
+        let mut form = [0; stored::SENDER_SIZE];
+        stored::store_sender(self.sender, reserved, &mut form)?;
+        self.disk = form;
+        println!(rt; "store: numbers below {reserved}")?;
+        sender::reserve(&mut self.sender, reserved)?;
+        Ok(())
+    }
+
+    // Sends a text, whose frame is the front of the buffer. Where the reservation is used up, stores and tells a higher one, and seals then.
+    fn send<'a>(
+        &mut self,
+        rt: HostRuntime,
+        text: &[u8],
+        buffer: &'a mut [u8],
+    ) -> Result<&'a [u8], Failure> {
+        let sealed = match seal(&mut self.sender, text, buffer) {
+            Err(Refusal::Reserve) => {
+                self.reserve(rt)?;
+                seal(&mut self.sender, text, buffer)?
+            }
+            sealed => sealed?,
+        };
+        println!(rt; "seal: frame {}, {} octets", sealed.number, sealed.size)?;
+        Ok(&buffer[..sealed.size])
+    }
 }
 
 // The highest reservation for a phone with this next number.
 fn highest(next: u32) -> u32 {
-    if numbering::END - sender::AHEAD < next {
-        return numbering::END;
-    }
-    next + sender::AHEAD
-}
-
-// The phone at a start: from the form that was stored last, or opened where none ever was.
-fn start(written: bool, disk: &[u8]) -> OpenedSender {
-    if written {
-        return stored::restore_sender(disk);
-    }
-    sender::open_sender(&KEY, IOV, SAPI, DIRECTION)
-}
-
-// Stores a higher reservation, and only then tells it to the phone. A buffer stands for the disk, which takes the form whole or not at all.
-fn reserve(rt: HostRuntime, phone: Sender, disk: &mut [u8; 29]) -> io::Result<Sender> {
-    let reserved = highest(phone.next);
-    let mut form = [0u8; 29];
-    let refusal = stored::store_sender(phone, reserved, &mut form);
-    if refusal != 0 {
-        tell(rt, b"store: refused ", refusal as u64, b"\n")?;
-        return Ok(phone);
-    }
-    *disk = form;
-    tell(rt, b"store: numbers below ", reserved as u64, b"\n")?;
-    let told = sender::reserve(phone, reserved);
-    Ok(told.sender)
+    next.saturating_add(sender::AHEAD).min(numbering::END)
 }
 
 // Seals a text. The frame is the first `size` octets of the buffer.
-fn seal(phone: Sender, text: &[u8], frame: &mut [u8]) -> Sealed
-    ensures { result.size ≤ length frame.new }
+fn seal(phone: &mut Sender, text: &[u8], buffer: &mut [u8]) -> Result<Sealed, Refusal>
+    ensures { IfOk result (λ sealed. sealed.size ≤ length buffer.new) }
 {
-    sender::seal(phone, text, frame)
-}
-
-// Seals a text. Where 13 says that the reservation is used up, stores and tells a higher one, and seals then.
-fn send(
-    rt: HostRuntime,
-    phone: Sender,
-    text: &[u8],
-    frame: &mut [u8],
-    disk: &mut [u8; 29],
-) -> io::Result<Sealed>
-    ensures { IfOk result (λ sealed. sealed.size ≤ length frame.new) }
-{
-    let sealed = seal(phone, text, frame);
-    if sealed.refusal != refusals::RESERVE {
-        return Ok(sealed);
-    }
-    let ready = reserve(rt, sealed.sender, disk)?;
-    Ok(seal(ready, text, frame))
+    sender::seal(phone, text, buffer)
 }
 
 // Opens a frame. The text is the first `size` octets of the buffer.
-fn open(cell: Receiver, frame: &[u8], text: &mut [u8]) -> Opened
-    ensures { result.size ≤ length text.new }
+fn open(cell: &mut Receiver, frame: &[u8], buffer: &mut [u8]) -> Result<Opened, Refused>
+    ensures { IfOk result (λ opened. opened.size ≤ length buffer.new) }
 {
-    receiver::open(cell, frame, text)
+    receiver::open(cell, frame, buffer)
 }
 
-fn tell_sealed(rt: HostRuntime, sealed: Sealed) -> io::Result<()> {
-    if sealed.refusal != 0 {
-        return tell(rt, b"seal: refused ", sealed.refusal as u64, b"\n");
+// Hands a frame to the cell, and says what came of it.
+fn receive(rt: HostRuntime, cell: &mut Receiver, frame: &[u8]) -> io::Result<()> {
+    let mut buffer = [0; 1520];
+    match open(cell, frame, &mut buffer) {
+        Ok(opened) => {
+            print!(rt; "open: frame {}, ", opened.number)?;
+            rt.write_all(&buffer[..opened.size])?;
+            println!(rt)
+        }
+        Err(
+            Refused {
+                refusal: Refusal::Repeat,
+                candidate: Some(number),
+            },
+        ) => println!(rt; "open: a repeat of frame {number}"),
+        Err(refused) => println!(rt; "open: refused {}", refused.refusal.number()),
     }
-    tell(rt, b"seal: frame ", sealed.number as u64, b", ")?;
-    tell(rt, b"", sealed.size as u64, b" octets\n")
 }
 
-fn tell_opened(rt: HostRuntime, opened: Opened, text: &[u8]) -> io::Result<()> {
-    if opened.refusal == refusals::REPEAT {
-        return tell(rt, b"open: a repeat of frame ", opened.number as u64, b"\n");
-    }
-    if opened.refusal != 0 {
-        return tell(rt, b"open: refused ", opened.refusal as u64, b"\n");
-    }
-    tell(rt, b"open: frame ", opened.number as u64, b", ")?;
-    rt.write_all(text)?;
-    rt.write_all(b"\n")
-}
+fn main(rt: HostRuntime) -> Result<(), Failure> {
+    let mut phone = Phone::open()?;
+    let mut cell = receiver::open_receiver(&KEY, IOV, SAPI, DIRECTION)?;
+    let mut buffer = [0; 1526];
 
-// Hands a frame to the cell, and answers the cell afterwards.
-fn receive(rt: HostRuntime, cell: Receiver, frame: &[u8]) -> io::Result<Receiver> {
-    let mut text = [0u8; 1520];
-    let opened = open(cell, frame, &mut text);
-    let size = opened.size;
-    tell_opened(rt, opened, &text[..size])?;
-    Ok(opened.receiver)
-}
-
-// After a cut: the phone is made from what the disk has, and goes on at its reservation.
-fn restart(rt: HostRuntime, disk: &mut [u8; 29], cell: Receiver) -> io::Result<()> {
-    let restored = start(true, disk);
-    if restored.refusal != 0 {
-        return tell(
-            rt,
-            b"restore_sender: refused ",
-            restored.refusal as u64,
-            b"\n",
-        );
+    // An empty text is refused: a refused call leaves the phone as it is.
+    match phone.send(rt, b"", &mut buffer) {
+        Err(Failure::Refused(refusal)) => println!(rt; "seal: refused {}", refusal.number())?,
+        sent => {
+            sent?;
+        }
     }
-    let phone = restored.sender;
-    tell(rt, b"restore: next number ", phone.next as u64, b"\n")?;
-    let mut frame = [0u8; 1526];
-    let again = send(rt, phone, b"back on the air", &mut frame, disk)?;
-    tell_sealed(rt, again)?;
-    let size = again.size;
-    receive(rt, cell, &frame[..size])?;
+
+    let hello = phone.send(rt, b"hello, cell", &mut buffer)?;
+    receive(rt, &mut cell, hello)?;
+    receive(rt, &mut cell, hello)?;
+
+    let question = phone.send(rt, b"how do you read me?", &mut buffer)?;
+    receive(rt, &mut cell, question)?;
+
+    // The plug is pulled, and what is left of the phone is its form on the disk, at whose reservation it goes on.
+    let mut phone = Phone::restore(phone.disk)?;
+    println!(rt; "restore: next number {}", phone.sender.next)?;
+    let again = phone.send(rt, b"back on the air", &mut buffer)?;
+    receive(rt, &mut cell, again)?;
     Ok(())
-}
-
-// Each call is given the state that the call before it handed back, whether that was refused or not.
-fn main(rt: HostRuntime) -> io::Result<()> {
-    let mut disk = [0u8; 29];
-    let phone = start(false, &disk);
-    if phone.refusal != 0 {
-        return tell(rt, b"open_sender: refused ", phone.refusal as u64, b"\n");
-    }
-    let cell = receiver::open_receiver(&KEY, IOV, SAPI, DIRECTION);
-    if cell.refusal != 0 {
-        return tell(rt, b"open_receiver: refused ", cell.refusal as u64, b"\n");
-    }
-
-    let mut frame = [0u8; 1526];
-    let nothing = send(rt, phone.sender, b"", &mut frame, &mut disk)?;
-    tell_sealed(rt, nothing)?;
-    let hello = send(rt, nothing.sender, b"hello, cell", &mut frame, &mut disk)?;
-    tell_sealed(rt, hello)?;
-    let size = hello.size;
-    let once = receive(rt, cell.receiver, &frame[..size])?;
-    let twice = receive(rt, once, &frame[..size])?;
-
-    let question = send(
-        rt,
-        hello.sender,
-        b"how do you read me?",
-        &mut frame,
-        &mut disk,
-    )?;
-    tell_sealed(rt, question)?;
-    let size = question.size;
-    let after = receive(rt, twice, &frame[..size])?;
-
-    // The plug is pulled, and what is left of the phone is its form on the disk.
-    restart(rt, &mut disk, after)
 }

@@ -5,7 +5,6 @@ use Rattle.lines.specs.Hearing.{silence, Rules, Standing}
 use Rattle.lines.specs.Lines.{lines_of, answers}
 use Rattle.numbering.specs.declared.Numbering.{Numbering}
 use Rattle.numbering.specs.Numbering.{start as Numbering·start}
-use Rattle.walk.specs.declared.walks.Walk.{Walk}
 use Rattle.walk.specs.Answer.{answer, after}
 
 -- the room that an output must have: four fields of at most ten octets, each with the octet that ends it
@@ -16,13 +15,9 @@ room = 44
 abbrev pub walk_rules : Rules Numbering
 walk_rules = record { answer = answer; after = after; room = room }
 
--- `walk` stands at its numbering and at the line so far
-abbrev pub standing : Walk → Standing Numbering
-standing walk = record { state = walk.numbering; heard = walk.heard }
-
 -- at the start: the numbering of a receiver that has accepted nothing, and nothing heard
-unfoldable pub start : Walk
-start = record { heard = silence; numbering = Numbering·start }
+unfoldable pub start : Standing Numbering
+start = record { state = Numbering·start; heard = silence }
 
 -- the header line: `N number answer next`
 unfoldable pub header : List ℕ

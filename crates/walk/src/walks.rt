@@ -1,13 +1,17 @@
 // What a line of `walk` sends and what is answered: a receiver's numbering, line by line. How lines are heard is the crate `lines`.
-ghost use Rattle.std.specs.Prelude.{◌≡◌, [], ◌∷◌, ◌+◌, ◌≤◌, length};
+ghost use Rattle.std.specs.Prelude.{◌≡◌, ◌+◌, ◌≤◌, [], ◌∷◌, length, refl};
+ghost use Rattle.std.specs.Result.{result_unwrap_or};
 ghost use Rattle.refusals.specs.Call.{Answered};
-ghost use Rattle.lines.specs.Text.{put_text_call, AtFront, Added, decimal_text};
-ghost use Rattle.lines.specs.Hearing.{heard_line, HearCall, FinishCall};
-ghost use Rattle.walk.specs.Answer.{sent_of, as_outcome, outcome_of, sent_text, number_text, refusal_text, field, row, LineCall};
-ghost use Rattle.walk.specs.Walk.{room as Walk·room, walk_rules, standing, start as Walk·start, header as Walk·header};
+ghost use Rattle.refusals.specs.Number.{refusal_of, refused_of, number_in};
+ghost use Rattle.lines.specs.Text.{AtFront, Added, put_text_call};
+ghost use Rattle.numbering.specs.declared.Numbering.{Numbering};
+ghost use Rattle.numbering.specs.Numbering.{start as Numbering·start};
+ghost use Rattle.walk.specs.Answer.{sent_of, as_outcome, outcome_of, text_of, sent_text, number_text, refusal_text, field, row};
+ghost use Rattle.walk.specs.Walk.{room as Walk·room, walk_rules, header as Walk·header};
 
-use lines::{Heard, Put};
-use numbering::{Numbered, Numbering};
+use lines::Program;
+use numbering::Numbering;
+use refusals::{Refusal, Refused};
 
 // What ends a line.
 const LINE_FEED: u8 = b'\n';
@@ -18,238 +22,143 @@ const SPACE: u8 = b' ';
 // The largest N on the air.
 const LARGEST: u64 = 511;
 
-// Room for every answer: four fields of at most ten octets, each with the octet that ends it.
-const ROOM: usize = 44;
-
-// The state between two octets: the line so far, and the numbering.
-#[derive(Clone, Copy)]
-pub(crate) struct Walk {
-    pub heard: Heard,
-    pub numbering: Numbering,
-}
-
-// The refusal of an octet, the state after it, and how many octets its answer has at the front of the output.
-#[derive(Clone, Copy)]
-pub(crate) struct Told {
-    pub refusal: u8,
-    pub walk: Walk,
-    pub written: usize,
-}
-
-// What a line sends: N, which is 0 where the line is bad.
-#[derive(Clone, Copy)]
-pub(crate) struct Sent {
-    pub ok: bool,
-    pub value: u32,
-}
-
-// The numbering after a line, and how many octets its answer has.
-#[derive(Clone, Copy)]
-pub(crate) struct Stepped {
-    pub numbering: Numbering,
-    pub written: usize,
-}
-
-// What a line sends.
-fn sent_of(line: &[u8]) -> Sent
+// What a line sends: N, where the line is good.
+fn sent_of(line: &[u8]) -> Option<u32>
     ensures { result ≡ sent_of line.now }
 {
-    let nothing = Sent {
-        ok: false,
-        value: 0,
-    };
     if 3 < line.len() {
-        return nothing;
+        return None;
     }
-    let number = lines::decimal(line);
-    if number.refusal != 0 {
-        return nothing;
+    let Ok(number) = lines::decimal(line) else {
+        return None;
+    };
+    if LARGEST < number {
+        return None;
     }
-    if LARGEST < number.value {
-        return nothing;
-    }
-    Sent {
-        ok: true,
-        value: number.value as u32,
-    }
+    Some(number as u32)
 }
 
 // What the numbering answers to what was sent. A bad line changes nothing.
-fn step(numbering: Numbering, sent: Sent) -> Numbered
-    ensures { as_outcome result ≡ outcome_of numbering sent }
+fn step(numbering: &mut Numbering, sent: Option<u32>) -> Result<u32, Refused>
+    ensures { as_outcome result numbering.new ≡ outcome_of numbering.old sent }
 {
-    if !sent.ok {
-        return Numbered {
-            refusal: refusals::RANGE,
-            number: 0,
-            numbering,
-        };
+    let Some(number) = sent else {
+        return Err(Refused::from(Refusal::Range));
+    };
+    numbering::number(numbering, number)
+}
+
+// A field of an answer, without the octet that ends it: a number in decimal, or a word.
+#[derive(Clone, Copy)]
+enum Shown {
+    Number(u32),
+    Word(&'static [u8]),
+}
+
+// The field of N.
+fn shown_sent(sent: Option<u32>) -> Shown
+    ensures { text_of result ≡ sent_text sent }
+{
+    match sent {
+        Some(number) => Shown::Number(number),
+        None => Shown::Word(b"?"),
     }
-    numbering::number(numbering, sent.value)
 }
 
-// Puts a text from a place on, and answers the place after it.
-fn add_text(text: &[u8], output: &mut [u8], place: usize) -> usize
-    requires { place + length text.now ≤ length output.old }
-    ensures { Added text.now output.old place result output.new }
+// The field of the candidate, which the numbering gives with 11 too.
+fn shown_candidate(answer: Result<u32, Refused>) -> Shown
+    ensures { text_of result ≡ number_text (refused_of answer) (number_in answer) }
 {
-    place + lines::put_text(text, &mut output[place..]).count
+    match answer {
+        Ok(number) => Shown::Number(number),
+        Err(refused) => match refused.refusal {
+            Refusal::Repeat => Shown::Number(refused.candidate.unwrap_or(0)),
+            _ => Shown::Word(b"-"),
+        },
+    }
 }
 
-// Puts a number in decimal from a place on, and the octet that ends its field.
-fn add_number(number: u32, ends: u8, output: &mut [u8], place: usize) -> usize
-    requires { place + 11 ≤ length output.old }
-    ensures { Added (field (decimal_text number) ends) output.old place result output.new }
+// The field of the answer.
+fn shown_answer(answer: Result<u32, Refused>) -> Shown
+    ensures { text_of result ≡ refusal_text (refused_of answer) }
 {
-    let put = lines::decimal_of_number(number, &mut output[place..]);
-    let end = place + put.count;
+    match answer {
+        Ok(_) => Shown::Word(b"ok"),
+        Err(refused) => Shown::Number(refused.refusal.number() as u32),
+    }
+}
+
+// Puts the text of a field at the front of the output.
+fn put_shown(shown: Shown, output: &mut [u8]) -> Result<usize, Refusal>
+    ensures { Answered (put_text_call (text_of shown) output.old) (refusal_of result) (result_unwrap_or result 0 ∷ []) output.new }
+{
+    match shown {
+        Shown::Number(number) => lines::decimal_of_number(number, output),
+        Shown::Word(word) => lines::put_text(word, output),
+    }
+}
+
+// Puts a field from a place on, and the octet that ends it, and answers the place after it.
+fn add_field(shown: Shown, ends: u8, output: &mut [u8], place: usize) -> usize
+    requires { place + length (field (text_of shown) ends) ≤ length output.old }
+    ensures { Added (field (text_of shown) ends) output.old place result output.new }
+{
+    let end = place + put_shown(shown, &mut output[place..]).unwrap();
     output[end] = ends;
     end + 1
 }
 
-// Puts the field of N.
-fn add_sent(sent: Sent, output: &mut [u8], place: usize) -> usize
-    requires { place + 11 ≤ length output.old }
-    ensures { Added (field (sent_text sent) 32) output.old place result output.new }
-{
-    if !sent.ok {
-        return add_text(b"? ", output, place);
-    }
-    add_number(sent.value, SPACE, output, place)
-}
-
-// Puts the field of the candidate.
-fn add_candidate(refusal: u8, number: u32, output: &mut [u8], place: usize) -> usize
-    requires { place + 11 ≤ length output.old }
-    ensures { Added (field (number_text refusal number) 32) output.old place result output.new }
-{
-    if refusal != 0 {
-        if refusal != refusals::REPEAT {
-            return add_text(b"- ", output, place);
-        }
-    }
-    add_number(number, SPACE, output, place)
-}
-
-// Puts the field of the answer.
-fn add_refusal(refusal: u8, output: &mut [u8], place: usize) -> usize
-    requires { place + 11 ≤ length output.old }
-    ensures { Added (field (refusal_text refusal) 32) output.old place result output.new }
-{
-    if refusal == 0 {
-        return add_text(b"ok ", output, place);
-    }
-    add_number(refusal as u32, SPACE, output, place)
-}
-
 // Puts a whole answer.
-fn put_row(sent: Sent, refusal: u8, number: u32, next: u32, output: &mut [u8]) -> usize
+fn put_row(sent: Option<u32>, answer: Result<u32, Refused>, next: u32, output: &mut [u8]) -> usize
     requires { Walk·room ≤ length output.old }
-    ensures { AtFront (row sent refusal number next) output.old result output.new }
+    ensures { AtFront (row sent (refused_of answer) (number_in answer) next) output.old result output.new }
 {
-    let number_at = add_sent(sent, output, 0);
-    let refusal_at = add_candidate(refusal, number, output, number_at);
-    let next_at = add_refusal(refusal, output, refusal_at);
-    add_number(next, LINE_FEED, output, next_at)
+    let number_at = add_field(shown_sent(sent), SPACE, output, 0);
+    let answer_at = add_field(shown_candidate(answer), SPACE, output, number_at);
+    let next_at = add_field(shown_answer(answer), SPACE, output, answer_at);
+    add_field(Shown::Number(next), LINE_FEED, output, next_at)
 }
 
-// Puts the answer to a line, and takes the numbering on.
-fn put_answer(numbering: Numbering, line: &[u8], output: &mut [u8]) -> Stepped
-    requires { Walk·room ≤ length output.old }
-    ensures { LineCall numbering line.now output.old result output.new }
-{
-    let sent = sent_of(line);
-    let answer = step(numbering, sent);
-    let after = answer.numbering;
-    let written = put_row(sent, answer.refusal, answer.number, after.next, output);
-    Stepped {
-        numbering: after,
-        written,
-    }
+// The program: the numbering goes from line to line.
+#[derive(Drop)]
+pub(crate) struct Walk {
+    pub numbering: Numbering,
 }
 
-// Puts the answer to the line heard.
-fn put_heard(walk: Walk, output: &mut [u8]) -> Stepped
-    requires { Walk·room ≤ length output.old }
-    ensures { LineCall walk.numbering (heard_line walk.heard) output.old result output.new }
-{
-    let heard = walk.heard;
-    let octets = heard.octets;
-    let count = heard.count;
-    if lines::LONGEST < count {
-        let line = lines::too_long();
-        return put_answer(walk.numbering, &line, output);
-    }
-    put_answer(walk.numbering, &octets[..count], output)
-}
-
-// The start: nothing heard, and nothing accepted.
+// The start: nothing is accepted.
 pub(crate) fn start() -> Walk
-    ensures { result ≡ Walk·start }
+    ensures { result.numbering ≡ Numbering·start }
 {
-    let heard = lines::silence();
-    let numbering = numbering::start();
-    Walk { heard, numbering }
-}
-
-// Puts the header line at the front of the output.
-pub(crate) fn header(output: &mut [u8]) -> Put
-    ensures { Answered (put_text_call Walk·header output.old) result.refusal (result.count ∷ []) output.new }
-{
-    lines::put_text(b"N number answer next\n", output)
-}
-
-// Hears one octet: a line feed has the line answered and begins a new one, any other octet is kept.
-pub(crate) fn hear(walk: Walk, octet: u8, output: &mut [u8]) -> Told
-    ensures { HearCall walk_rules (standing walk) octet output.old result.refusal (standing result.walk) result.written output.new }
-{
-    if output.len() < ROOM {
-        return Told {
-            refusal: refusals::ROOM,
-            walk,
-            written: 0,
-        };
-    }
-    if octet == LINE_FEED {
-        let stepped = put_heard(walk, output);
-        let heard = lines::silence();
-        let numbering = stepped.numbering;
-        return Told {
-            refusal: 0,
-            walk: Walk { heard, numbering },
-            written: stepped.written,
-        };
-    }
-    let heard = lines::kept(walk.heard, octet);
-    let numbering = walk.numbering;
-    Told {
-        refusal: 0,
-        walk: Walk { heard, numbering },
-        written: 0,
+    Walk {
+        numbering: numbering::start(),
     }
 }
 
-// The input ends: puts the answer to a last line that has no line end.
-pub(crate) fn finish(walk: Walk, output: &mut [u8]) -> Put
-    ensures { FinishCall walk_rules (standing walk) output.old result.refusal result.count output.new }
+// Puts the header line at the front of the output, and answers how many octets it has.
+pub(crate) fn put_header(output: &mut [u8]) -> usize
+    requires { Walk·room ≤ length output.old }
+    ensures { AtFront Walk·header output.old result output.new }
 {
-    let refused = Put {
-        refusal: refusals::ROOM,
-        count: 0,
-    };
-    if output.len() < ROOM {
-        return refused;
+    lines::put_text(b"N number answer next\n", output).unwrap()
+}
+
+impl Program for Walk {
+    ghost State = { Numbering };
+
+    ghost state = { λ walk. walk.numbering };
+
+    ghost rules = { walk_rules };
+
+    ghost ROOM = { Walk·room };
+
+    // Four fields of at most ten octets, each with the octet that ends it.
+    const ROOM: usize = 44;
+
+    fn answer(&mut self, line: &[u8], output: &mut [u8]) -> usize {
+        let sent = sent_of(line);
+        let answer = step(&mut self.numbering, sent);
+        put_row(sent, answer, self.numbering.next, output)
     }
-    let heard = walk.heard;
-    if heard.count == 0 {
-        return Put {
-            refusal: 0,
-            count: 0,
-        };
-    }
-    let stepped = put_heard(walk, output);
-    Put {
-        refusal: 0,
-        count: stepped.written,
-    }
+
+    ghost room = { refl };
 }

@@ -1,9 +1,9 @@
 -- `kgcore::generate` meets its contract. The loop's invariant: `block` is block n, and the octets of the blocks so far stand at the front of
--- the output, as far as `size` goes. After the loop only the spare bits of the last octet are left to clear. The measure is what is left of the blocks.
+-- the output, as far as `size` goes. After the loop only the spare bits of the last octet are left to clear.
 -- Assumes nothing.
 use mathlib.Core.Path.{◌≡◌}
 use mathlib.Core.List.{List, ◌++◌}
-use Prim.Native.Nat.{ℕ, ◌-◌, ◌*◌, ◌^◌, ◌≤◌, ◌<◌, min}
+use Prim.Native.Nat.{ℕ, ◌*◌, min}
 use lib.ListN.{drop}
 use Rattle.octets.specs.Bits.{octet, listed}
 use Rattle.kgcore.specs.Kgcore
@@ -12,14 +12,9 @@ use Rattle.kgcore.proofs.Stream.{stream_bit}
 use Rattle.kgcore.proofs.generate.Given as goal
 
 -- block n is the last one made, and the octets of the blocks so far stand at the front of the output, as far as `size` goes
-pub record Generated (key before : List ℕ) (a count size : ℕ) (output : List ℕ) (block n : ℕ) : Type 0 where
-  pub n_within : n ≤ count
+pub record Generated (key before : List ℕ) (a size : ℕ) (output : List ℕ) (block n : ℕ) : Type 0 where
   pub block_is : block ≡ Kgcore.block key a n
-  pub block_fits : block < 2 ^ 64
   pub output_is : output ≡ listed (octet (stream_bit key a)) (min (8 * n) size) ++ drop (min (8 * n) size) before
 
 abbrev pub invariant-loop-n : goal.invariant-loop-n
-invariant-loop-n l = Generated l.key l.initial.output l.a l.count l.size l.output l.block l.n
-
-abbrev pub decreases-loop-n : goal.decreases-loop-n
-decreases-loop-n l = l.count - l.n
+invariant-loop-n l = Generated l.key l.fn.output l.a l.size l.output l.block l.n

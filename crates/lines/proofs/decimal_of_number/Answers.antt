@@ -8,4 +8,4 @@ pub returns-then-output-digits_of : goal.returns-then-output-digits_of
 returns-then-output-digits_of c = put_short _ _ _ (omega (arith, c.digits_of.ensures))
 
 pub returns : goal.returns
-returns c = put_fits _ _ (omega (arith, c.digits_of.ensures)) c.put_digits-count.ensures
+returns c = put_fits _ _ (omega (arith, c.digits_of.ensures)) c.put_digits.ensures

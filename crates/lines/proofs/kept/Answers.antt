@@ -4,10 +4,10 @@ use borrow.Author.Tests.{lt-ltb, le-ltb}
 use Rattle.lines.specs.Hearing.{kept}
 use Rattle.lines.proofs.kept.Goals as goal
 
-pub returns-then-count-lt-LONGEST : goal.returns-then-count-lt-LONGEST
+pub returns-then-heard-ge-LONGEST : goal.returns-then-heard-ge-LONGEST
 unfolding kept
-returns-then-count-lt-LONGEST c = rw (lt-ltb _ _ c.if-count-lt-LONGEST.true)
+returns-then-heard-ge-LONGEST c = rw (le-ltb _ _ c.if-heard-ge-LONGEST.true)
 
 pub returns : goal.returns
 unfolding kept
-returns c = rw (le-ltb _ _ c.if-count-lt-LONGEST.false)
+returns c = rw (lt-ltb _ _ c.if-heard-ge-LONGEST.false)

@@ -1,7 +1,6 @@
 -- `lines::octets_of_hex` meets its contract. The loop's invariant: the octets of the first k pairs stand at the front of the output, and the rest
--- is as it was. The measure is how many pairs are left.
+-- is as it was.
 -- Assumes nothing.
-use Rattle.std.proofs.Common.{rules}
 use Prim.Native.Nat.{ℕ, ◌+◌, ◌*◌, ◌%◌, ◌<◌}
 use native.Mathlib.Omega.{arith}
 use borrow.Author.Tests.{eq-eqb, ne_eqb}
@@ -60,7 +59,7 @@ returns-then-output-count c =
 
 pub loop-k-init : goal.loop-k-init
 unfolding hex_octets
-loop-k-init c = (search rules, refl)
+loop-k-init c = refl
 
 pub overflow_mul-output : goal.overflow_mul-output
 overflow_mul-output c = omega (arith, hex_digit (goal.at.overflow_mul-output c).In-loop-k (2 * c.loop-k.k) (omega arith))
@@ -75,12 +74,10 @@ loop-k-preserved c =
     let given = c.args in
     let text = given.text.now in
     let before = given.output.now in
-    let k : ℕ = c.loop-k.k in (
-      omega arith,
-      ap (λ (l : List ℕ). set l k (c.digit.result * 16 + c.digit-in-loop-k.result)) c.loop-k.invariant.1
-          ∙ ap₂ (λ (high low : ℕ). set (hex_octets (take (2 * k) text) ++ drop k before) k (high * 16 + low)) c.digit.ensures c.digit-in-loop-k.ensures
-          ∙ octets_turn text before k (omega arith) (omega arith),
-    )
+    let k : ℕ = c.loop-k.k in
+    ap (λ (l : List ℕ). set l k (c.digit.result * 16 + c.digit-in-loop-k.result)) c.loop-k.invariant
+    ∙ ap₂ (λ (high low : ℕ). set (hex_octets (take (2 * k) text) ++ drop k before) k (high * 16 + low)) c.digit.ensures c.digit-in-loop-k.ensures
+    ∙ octets_turn text before k (omega arith) (omega arith)
 
 pub returns : goal.returns
 returns c =
@@ -90,5 +87,5 @@ returns c =
     put (hex_good text before (are_hex (goal.at.returns c).Else-not-all_digits) ∙ room_enough (length (hex_octets text)) before (omega (arith, length-hex_octets text)))
     (record {
       written_is = sym (length-hex_octets text);
-      output_is = c.loop-k.invariant.1 ∙ octets_put text before c.loop-k.k (omega arith);
+      output_is = c.loop-k.invariant ∙ octets_put text before c.loop-k.k (omega arith);
     })

@@ -1,7 +1,7 @@
 -- `lines::octets_of_hex` meets its contract. The loop's invariant: the octets of the first k pairs stand at the front of the output, and the rest
--- is as it was. The measure is how many pairs are left.
+-- is as it was.
 -- Assumes nothing.
-use Prim.Native.Nat.{◌-◌, ◌*◌, ◌≤◌}
+use Prim.Native.Nat.{◌*◌}
 use lib.ListN.{take, drop}
 use mathlib.Core.List.{◌++◌}
 use mathlib.Core.Path.{◌≡◌}
@@ -9,7 +9,4 @@ use Rattle.lines.specs.Text.{hex_octets}
 use Rattle.lines.proofs.octets_of_hex.Given as goal
 
 abbrev pub invariant-loop-k : goal.invariant-loop-k
-invariant-loop-k l = (l.k ≤ l.count) × (l.output ≡ hex_octets (take (2 * l.k) l.text) ++ drop l.k l.initial.output)
-
-abbrev pub decreases-loop-k : goal.decreases-loop-k
-decreases-loop-k l = l.count - l.k
+invariant-loop-k l = l.output ≡ hex_octets (take (2 * l.k) l.text) ++ drop l.k l.initial.output

@@ -1,47 +1,42 @@
 -- `link::open_link` meets its contract: each refusal is given where its cause is the first that holds, and else the link has the prepared key.
 -- Assumes nothing.
-use Rattle.std.proofs.Common.{◌≡◌, true, ◌&&◌, sym, refl, ◌∙◌, ap₂}
+use Rattle.std.proofs.Common.{◌≡◌, false, sym, refl, ◌∙◌}
+use borrow.Author.Tests.{eqb-false}
+use Rattle.std.proofs.lemmas.Result.{err_from_is_err_and}
+use Rattle.refusals.specs.Number.{number_of}
 use Rattle.refusals.specs.Refusal.{first}
-use Rattle.keystreams.specs.Key.{is_key, prepared}
+use Rattle.refusals.proofs.Number.{number_some}
+use Rattle.refusals.proofs.Calls.{refused}
+use Rattle.keystreams.specs.Key.{is_key, key_order}
 use Rattle.keystreams.proofs.Keys.{prepare_done, prepare_refused}
-use Rattle.link.specs.Link.{is_service, is_direction, link_order, link_of}
-use Rattle.link.proofs.open_link.Goals.{After-is_direction, Else-prepared-ne0}
+use Rattle.link.specs.Link.{link_can_arise, link_order, link_of, open_link_call}
 use Rattle.link.proofs.open_link.Goals as goal
 
--- past the first test the key is one
-key_right : (c : Else-prepared-ne0) → (is_key c.args.key.now ≡ true) × (c.prepare_key-prepared.result.key ≡ prepared c.args.key.now)
-key_right c = prepare_done _ c.prepare_key-prepared.ensures c.if-prepared-ne0.false
+pub returns-in_err-prepare_key : goal.returns-in_err-prepare_key
+unfolding first key_order link_order
+returns-in_err-prepare_key c =
+    let given = c.args in
+    let refusal = c.in_err-prepare_key.field-0.0 in
+    let p = err_from_is_err_and c.from_residual.result c.from_residual.ensures.1 in
+    let no_key : is_key given.key.now ≡ false = prepare_refused given.key.now c.in_err-prepare_key.ensures (number_some refusal) in
+    let named : number_of refusal ≡ 1 = c.in_err-prepare_key.ensures.refusal_is ∙ rw no_key in
+    rw (p.1, p.2, named) (refused (open_link_call given.key.now given.iov given.sapi given.direction) 1 (rw no_key) (eqb-false 1 0 refl))
 
--- what the second test is
-range_is : (c : After-is_direction) → let given = c.args in
-    (c.is_service.result && c.is_direction.result) ≡ (is_service given.sapi && is_direction given.direction)
-range_is c = ap₂ ◌&&◌ c.is_service.ensures c.is_direction.ensures
-
-pub returns-then-prepared-ne0 : goal.returns-then-prepared-ne0
-unfolding first link_order
-returns-then-prepared-ne0 c =
-    record {
-      refusal_is = rw (prepare_refused _ c.prepare_key-prepared.ensures c.if-prepared-ne0.true);
-      numbers_are = refl;
-      lent_is = c.no_link.ensures;
-    }
-
-pub returns-then-not-is_service-is_direction : goal.returns-then-not-is_service-is_direction
-unfolding first link_order
-returns-then-not-is_service-is_direction c =
-    record {
-      refusal_is = simp ((key_right (goal.at.returns-then-not-is_service-is_direction c).Else-prepared-ne0).0, sym (range_is (goal.at.returns-then-not-is_service-is_direction c).After-is_direction) ∙ c.if-not-is_service-is_direction.true);
-      numbers_are = refl;
-      lent_is = c.no_link-then-not-is_service-is_direction.ensures;
-    }
+pub returns-then-not-can_arise : goal.returns-then-not-can_arise
+unfolding first link_order link_can_arise
+returns-then-not-can_arise c =
+    let given = c.args in
+    let key_is = (prepare_done given.key.now c.in_ok-prepare_key.ensures refl).0 in
+    refused (open_link_call given.key.now given.iov given.sapi given.direction) 2
+    (simp (key_is, sym c.can_arise.ensures ∙ c.if-not-can_arise.true)) (eqb-false 2 0 refl)
 
 pub returns : goal.returns
-unfolding first link_order link_of
+unfolding first link_order link_of link_can_arise
 returns c =
     let given = c.args in
-    let key_is = (key_right (goal.at.returns c).Else-prepared-ne0).1 in
+    let done = prepare_done given.key.now c.in_ok-prepare_key.ensures refl in
     record {
-      refusal_is = simp ((key_right (goal.at.returns c).Else-prepared-ne0).0, sym (range_is (goal.at.returns c).After-is_direction) ∙ c.if-not-is_service-is_direction.false);
+      refusal_is = simp (done.0, sym c.can_arise.ensures ∙ c.if-not-can_arise.false);
       numbers_are = refl;
-      lent_is = λ i. record { key = key_is i; iov = given.iov; sapi = given.sapi; direction = given.direction };
+      lent_is = λ i. record { key = done.1 i; iov = given.iov; sapi = given.sapi; direction = given.direction };
     }

@@ -1,5 +1,4 @@
 -- `octets::cut` meets its contract: each turn of the loop puts the next octet, of the eight bits there as many as are left.
--- The measure is what is left of the size.
 -- Assumes nothing.
 use Rattle.std.proofs.Common.{rules}
 use mathlib.Core.Path.{◌≡◌, refl, sym, ap, ap₂, ◌∙◌}
@@ -33,7 +32,7 @@ returns-then-output-size c =
 
 pub loop-k-init : goal.loop-k-init
 unfolding listed
-loop-k-init c = record { within = search rules; output_is = refl }
+loop-k-init c = refl
 
 pub overflow_mul-k : goal.overflow_mul-k
 unfolding size
@@ -60,14 +59,8 @@ loop-k-preserved c =
     let given = c.args in
     let source : List ℕ = given.source.now in
     let k : ℕ = c.loop-k.k in
-    record {
-      within = omega arith;
-      output_is =
-          ap₂ (λ (l : List ℕ) (x : ℕ). set l k x)
-          c.loop-k.invariant.output_is
-          (turn source given.start given.count k _ _ c.eight_bits.ensures c.first_bits.ensures)
-          ∙ listed_store (asked source given.start given.count) given.output.now k (omega arith);
-    }
+    ap₂ (λ (l : List ℕ) (x : ℕ). set l k x) c.loop-k.invariant (turn source given.start given.count k _ _ c.eight_bits.ensures c.first_bits.ensures)
+    ∙ listed_store (asked source given.start given.count) given.output.now k (omega arith)
 
 pub returns : goal.returns
 unfolding first cut_order stored
@@ -77,7 +70,7 @@ returns c =
       refusal_is = rw (le-ltb (length given.output.now) (size given.count) (omega arith));
       numbers_are = refl;
       lent_is =
-          c.loop-k.invariant.output_is
+          c.loop-k.invariant
           ∙ ap (λ (k : ℕ). listed (asked given.source.now given.start given.count) k ++ drop k given.output.now) (omega arith)
           ∙ sym (front_stored (bit_of given.source.now) given.start given.count given.output.now);
     }

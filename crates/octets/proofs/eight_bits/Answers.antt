@@ -33,5 +33,6 @@ field octets at fits =
 pub returns : goal.returns
 returns c =
     let at : ℕ = c.args.at in
-    ap₂ (λ (high low : ℕ). (high * 256 + low) / 2 ^ (8 - at % 8) % 256) c.octet_or_zero-high.ensures c.octet_or_zero-low.ensures
+    let joined = ap₂ (λ (high low : ℕ). high * 256 + low) c.octet_or_zero-high.ensures c.octet_or_zero-low.ensures in
+    ap (λ (two : ℕ). two / 2 ^ (8 - at % 8) % 256) (omega (arith, c.from_be_bytes.ensures, joined))
     ∙ sym (field c.args.source.now at (λ i. (c.type_inv.source i).fits))

@@ -1,6 +1,5 @@
--- `octets::xor` meets its contract: each turn of the loop puts the next octet. The measure is what is left of the source.
+-- `octets::xor` meets its contract: each turn of the loop puts the next octet.
 -- Assumes nothing.
-use Rattle.std.proofs.Common.{rules}
 use Prim.Native.Nat.{ℕ, ◌<◌}
 use native.Mathlib.Omega.{arith}
 use mathlib.Core.Path.{refl, sym, ap, ap₂, ◌∙◌}
@@ -25,7 +24,7 @@ returns-then-output-source c =
 
 pub loop-i-init : goal.loop-i-init
 unfolding listed
-loop-i-init c = record { within = search rules; output_is = refl }
+loop-i-init c = refl
 
 pub loop-i-preserved : goal.loop-i-preserved
 loop-i-preserved c =
@@ -34,12 +33,8 @@ loop-i-preserved c =
     let stream : List ℕ = given.stream.now in
     let i : ℕ = c.loop-i.i in
     let room : i < length given.output.now = omega arith in
-    record {
-      within = omega arith;
-      output_is =
-          ap₂ (λ (l : List ℕ) (x : ℕ). set l i (bit_xor (get_or source i 0) x)) c.loop-i.invariant.output_is c.octet_or_zero.ensures
-          ∙ listed_store (at source stream) given.output.now i room;
-    }
+    ap₂ (λ (l : List ℕ) (x : ℕ). set l i (bit_xor (get_or source i 0) x)) c.loop-i.invariant c.octet_or_zero.ensures
+    ∙ listed_store (at source stream) given.output.now i room
 
 pub returns : goal.returns
 unfolding first xor_order xored front
@@ -52,7 +47,7 @@ returns c =
       refusal_is = rw (le-ltb (length before) (length source) (omega arith));
       numbers_are = refl;
       lent_is =
-          c.loop-i.invariant.output_is
+          c.loop-i.invariant
           ∙ ap (λ (i : ℕ). listed (at source stream) i ++ drop i before) {y = length source} (omega arith)
           ∙ ap (λ (n : ℕ). listed (at source stream) (length source) ++ drop n before) (sym (length-xored source stream));
     }

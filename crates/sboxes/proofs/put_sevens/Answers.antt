@@ -1,5 +1,4 @@
--- `sboxes::put_sevens` meets its contract: each turn of the loop puts the next entry behind the 512 that stay. The measure is what is left
--- of the 128.
+-- `sboxes::put_sevens` meets its contract: each turn of the loop puts the next entry behind the 512 that stay.
 -- Assumes nothing.
 use Rattle.std.proofs.Common.{rules}
 use Prim.Native.Nat.{ℕ, ◌+◌, ◌<◌}
@@ -35,21 +34,11 @@ one_more before table b long below is =
 pub loop-b-init : goal.loop-b-init
 unfolding listed
 loop-b-init c =
-    let before : List ℕ = c.args.table.now in (
-      search rules,
-      (
-        sym (ap (λ (l : List ℕ). l ++ drop 512 before) (append-nil (take 512 before)) ∙ take-append-drop 512 before),
-        c.s7_table-sevens.ensures,
-      ),
-    )
+    let before : List ℕ = c.args.table.now in
+    sym (ap (λ (l : List ℕ). l ++ drop 512 before) (append-nil (take 512 before)) ∙ take-append-drop 512 before)
 
 pub loop-b-preserved : goal.loop-b-preserved
 loop-b-preserved c =
-    let b : ℕ = c.loop-b.b in (
-      omega arith,
-      (
-        ap (set c.loop-b.table (512 + b)) c.entry_of_seven.ensures
-            ∙ one_more c.args.table.now c.loop-b.table b c.requires (omega arith) c.loop-b.invariant.1.0,
-        c.loop-b.invariant.1.1,
-      ),
-    )
+    let b : ℕ = c.loop-b.b in
+    ap (set c.loop-b.table (512 + b)) c.entry_of_seven.ensures
+    ∙ one_more c.args.table.now c.loop-b.table b (search rules) (omega arith) c.loop-b.invariant

@@ -1,18 +1,13 @@
--- `sboxes::put_sevens` meets its contract: each turn of the loop puts the next entry behind the 512 that stay. The measure is what is left
--- of the 128.
+-- `sboxes::put_sevens` meets its contract: each turn of the loop puts the next entry behind the 512 that stay.
 -- Assumes nothing.
-use Prim.Native.Nat.{◌+◌, ◌-◌, ◌≤◌}
+use Prim.Native.Nat.{◌+◌}
 use mathlib.Core.Path.{◌≡◌}
 use mathlib.Core.List.{◌++◌}
 use lib.ListN.{take, drop}
 use Rattle.octets.specs.Bits.{listed}
-use Rattle.sboxes.specs.Tables.{s7_table}
 use Rattle.sboxes.specs.FiTable.{entry_of_seven}
 use Rattle.sboxes.proofs.put_sevens.Given as goal
 
 -- the first b entries stand behind the 512
 abbrev pub invariant-loop-b : goal.invariant-loop-b
-invariant-loop-b l = (l.b ≤ 128) × ((l.table ≡ (take 512 l.initial.table ++ listed entry_of_seven l.b) ++ drop (512 + l.b) l.initial.table) × (l.sevens ≡ s7_table))
-
-abbrev pub decreases-loop-b : goal.decreases-loop-b
-decreases-loop-b l = 128 - l.b
+invariant-loop-b l = l.table ≡ (take 512 l.initial.table ++ listed entry_of_seven l.b) ++ drop (512 + l.b) l.initial.table

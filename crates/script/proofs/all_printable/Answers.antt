@@ -1,22 +1,25 @@
--- `script::all_printable` meets its contract. The loop's invariant: the test of the text is the test of what is left of it.
+-- `script::all_printable` meets its contract: the test of each octet is the one of the definition.
 -- Assumes nothing.
-use mathlib.Core.Path.{sym, ◌∙◌}
-use native.Mathlib.Omega.{arith}
-use Rattle.script.proofs.Lines.{printable_low, printable_high, printable_passes, printable_end}
+use Prim.Native.Nat.{ℕ}
+use mathlib.Core.Bool.{Bool, ◌&&◌}
+use mathlib.Core.List.{List, [], ◌∷◌}
+use mathlib.Core.Path.{◌≡◌, refl, ap, ◌∙◌}
+use borrow.Author.Tests.{tests}
+use Rattle.std.proofs.Common.{rules}
+use Rattle.std.specs.List.{list_all}
+use Rattle.std.proofs.lemmas.Iterator.{YieldsList-from_slice}
+use Rattle.std.proofs.lemmas.Iterator.Search.{all_from_yields_List}
+use Rattle.lines.specs.Digits.{within}
+use Rattle.script.specs.Script.{all_printable}
 use Rattle.script.proofs.all_printable.Goals as goal
 
-pub returns-then-text-i-lt32 : goal.returns-then-text-i-lt32
-returns-then-text-i-lt32 c =
-    sym (c.loop-i.invariant.1 ∙ printable_low c.args.text.now c.loop-i.i (omega arith) c.if-text-i-lt32.true)
-
-pub returns-then-text-i-gt126 : goal.returns-then-text-i-gt126
-returns-then-text-i-gt126 c =
-    sym (c.loop-i.invariant.1 ∙ printable_high c.args.text.now c.loop-i.i (omega arith) c.if-text-i-gt126.true)
-
-pub loop-i-preserved : goal.loop-i-preserved
-loop-i-preserved c =
-    (omega arith, c.loop-i.invariant.1 ∙ printable_passes c.args.text.now c.loop-i.i (omega arith) c.if-text-i-lt32.false c.if-text-i-gt126.false)
+listed : (text : List ℕ) → list_all (within 32 126) text ≡ all_printable text
+unfolding all_printable
+listed [] = refl
+listed (octet ∷ rest) = ap (λ (b : Bool). within 32 126 octet && b) (listed rest)
 
 pub returns : goal.returns
+unfolding within
 returns c =
-    sym (c.loop-i.invariant.1 ∙ printable_end c.args.text.now c.loop-i.i (omega arith))
+    all_from_yields_List (within 32 126) _ _ _ c.all.ensures.ran (YieldsList-from_slice c.args.text.now (cc)) (λ x b q k. search (rules, tests))
+    ∙ listed c.args.text.now

@@ -1,13 +1,22 @@
--- `script::asked_give` meets its contract: the tests of the length and of the place decide.
+-- `script::asked_give` meets its contract: the length and the place decide.
 -- Assumes nothing.
-use Rattle.script.proofs.Lines.{give_nowhere, give_there, give_other}
+use native.Mathlib.Omega.{arith}
+use mathlib.Core.Path.{sym, ◌∙◌}
+use Rattle.std.proofs.lemmas.Result.{err_from_is_err_and}
+use Rattle.script.proofs.Lines.{refused, give_nowhere, give_there, give_other}
 use Rattle.script.proofs.asked_give.Goals as goal
 
-pub returns-then-k-gt9 : goal.returns-then-k-gt9
-returns-then-k-gt9 c = give_nowhere c.args.rest.now c.place_of-k.ensures c.if-rest-eq1.true c.if-k-gt9.true
+pub returns-in_default : goal.returns-in_default
+returns-in_default c = give_other _ (omega arith)
 
-pub returns-then-rest-eq1 : goal.returns-then-rest-eq1
-returns-then-rest-eq1 c = give_there c.args.rest.now c.place_of-k.ensures c.if-rest-eq1.true c.if-k-gt9.false
+pub returns-in_default-2 : goal.returns-in_default-2
+returns-in_default-2 c = give_other _ (omega arith)
 
-pub returns : goal.returns
-returns c = give_other c.args.rest.now c.if-rest-eq1.false
+pub returns-in_err-ok_or-in-len1 : goal.returns-in_err-ok_or-in-len1
+returns-in_err-ok_or-in-len1 c =
+    let none = c.in_err-ok_or-in-len1.ensures.ok_part in
+    let p = err_from_is_err_and c.from_residual.result c.from_residual.ensures.1 in
+    rw (p.1, p.2) (refused c.in_err-ok_or-in-len1.ensures.value none ∙ give_nowhere _ (omega arith) (sym c.place_of.ensures ∙ none))
+
+pub returns-in_ok-ok_or-in-len1 : goal.returns-in_ok-ok_or-in-len1
+returns-in_ok-ok_or-in-len1 c = give_there _ (omega arith) (sym c.place_of.ensures ∙ c.in_ok-ok_or-in-len1.ensures.ok_part)

@@ -1,16 +1,22 @@
--- `script::asked_keep` meets its contract: the tests of the length, of the place and of the space decide.
+-- `script::asked_keep` meets its contract: the length, the place and the space decide.
 -- Assumes nothing.
-use Rattle.script.proofs.Lines.{keep_short, keep_nowhere, keep_there, keep_unspaced}
+use native.Mathlib.Omega.{arith}
+use mathlib.Core.Path.{sym, ◌∙◌}
+use Rattle.std.proofs.lemmas.Result.{err_from_is_err_and}
+use Rattle.script.proofs.Lines.{refused, keep_short, keep_nowhere, keep_there, keep_unspaced}
 use Rattle.script.proofs.asked_keep.Goals as goal
 
-pub returns-then-rest-lt2 : goal.returns-then-rest-lt2
-returns-then-rest-lt2 c = keep_short c.args.rest.now c.if-rest-lt2.true
+pub returns-in_default : goal.returns-in_default
+returns-in_default c = keep_short _ c.in_default.len_below
 
-pub returns-then-k-gt9 : goal.returns-then-k-gt9
-returns-then-k-gt9 c = keep_nowhere c.args.rest.now c.place_of-k.ensures c.if-rest-lt2.false c.if-k-gt9.true
+pub returns-in_default-2 : goal.returns-in_default-2
+returns-in_default-2 c = keep_unspaced _ c.in_default.len_at_least (omega arith)
 
-pub returns-then-rest-eq32 : goal.returns-then-rest-eq32
-returns-then-rest-eq32 c = keep_there c.args.rest.now c.place_of-k.ensures c.if-rest-lt2.false c.if-k-gt9.false c.if-rest-eq32.true
+pub returns-in_err-ok_or-in-32 : goal.returns-in_err-ok_or-in-32
+returns-in_err-ok_or-in-32 c =
+    let none = c.in_err-ok_or-in-32.ensures.ok_part in
+    let p = err_from_is_err_and c.from_residual.result c.from_residual.ensures.1 in
+    rw (p.1, p.2) (refused c.in_err-ok_or-in-32.ensures.value none ∙ keep_nowhere _ c.in-32.len_at_least (sym c.place_of.ensures ∙ none))
 
-pub returns : goal.returns
-returns c = keep_unspaced c.args.rest.now c.place_of-k.ensures c.if-rest-lt2.false c.if-k-gt9.false c.if-rest-eq32.false
+pub returns-in_ok-ok_or-in-32 : goal.returns-in_ok-ok_or-in-32
+returns-in_ok-ok_or-in-32 c = keep_there _ c.in-32.len_at_least (sym c.place_of.ensures ∙ c.in_ok-ok_or-in-32.ensures.ok_part) (omega arith)

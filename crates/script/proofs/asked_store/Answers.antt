@@ -1,20 +1,15 @@
--- `script::asked_store` meets its contract: a number of at most three digits is the count.
+-- `script::asked_store` meets its contract: the count decides.
 -- Assumes nothing.
-use native.Mathlib.Omega.{arith}
-use Rattle.script.proofs.Lines.{store_long, store_none, store_below, store_some}
+use mathlib.Core.Path.{sym, ◌∙◌}
+use Rattle.std.proofs.lemmas.Result.{err_from_is_err_and}
+use Rattle.script.proofs.Lines.{refused, store_none, store_some}
 use Rattle.script.proofs.asked_store.Goals as goal
 
-pub returns-then-rest-gt3 : goal.returns-then-rest-gt3
-returns-then-rest-gt3 c = store_long _ c.if-rest-gt3.true
-
-pub returns-then-number-ne0 : goal.returns-then-number-ne0
-returns-then-number-ne0 c =
-    store_none c.args.rest.now c.if-rest-gt3.false c.decimal-number.ensures c.if-number-ne0.true
-
-pub overflow_cast-result : goal.overflow_cast-result
-overflow_cast-result c =
-    omega (arith, store_below c.args.rest.now c.if-rest-gt3.false c.decimal-number.ensures c.if-number-ne0.false)
+pub returns-in_err-ok_or : goal.returns-in_err-ok_or
+returns-in_err-ok_or c =
+    let none = c.in_err-ok_or.ensures.ok_part in
+    let p = err_from_is_err_and c.from_residual.result c.from_residual.ensures.1 in
+    rw (p.1, p.2) (refused c.in_err-ok_or.ensures.value none ∙ store_none _ (sym c.count_of.ensures ∙ none))
 
 pub returns : goal.returns
-returns c =
-    store_some c.args.rest.now c.if-rest-gt3.false c.decimal-number.ensures c.if-number-ne0.false
+returns c = store_some _ (sym c.count_of.ensures ∙ c.in_ok-ok_or.ensures.ok_part)

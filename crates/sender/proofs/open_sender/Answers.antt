@@ -9,4 +9,5 @@ pub returns : goal.returns
 unfolding new_sender
 returns c =
     let given = c.args in
-    made_of new_sender (link_order given.key.now given.sapi given.direction) no_link (link_of given.key.now given.iov given.sapi given.direction) c.open_link-opened.ensures
+    let opened = rw c.in_ok-link.was at c.open_link.ensures in
+    made_of new_sender (link_order given.key.now given.sapi given.direction) no_link (link_of given.key.now given.iov given.sapi given.direction) opened

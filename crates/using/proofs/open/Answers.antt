@@ -1,8 +1,8 @@
 -- `using::open` meets its contract: the text lies within the buffer.
 -- Assumes nothing.
 use Rattle.numbering.specs.Numbering.{width}
-use Rattle.receiver.proofs.Within.{opened_within}
+use Rattle.receiver.proofs.Within.{opened_fits}
 use Rattle.using.proofs.open.Goals as goal
 
 pub returns : goal.returns
-returns c = (opened_within width _ _ _ c.«open».ensures).0
+returns c = opened_fits width _ _ _ _ c.open.ensures.answer

@@ -10,7 +10,7 @@ use Rattle.aes.proofs.schedule.next_word.Goals as goal
 
 pub returns-then-i-lt4 : goal.returns-then-i-lt4
 unfolding next_word
-returns-then-i-lt4 c = rw (lt-ltb _ 4 c.if-i-lt4.true) c.word_at.ensures.0
+returns-then-i-lt4 c = rw (lt-ltb _ 4 c.if-i-lt4.true) c.word_at.ensures
 
 pub returns-then-i-eq0 : goal.returns-then-i-eq0
 unfolding next_word

@@ -5,14 +5,11 @@ use native.Mathlib.Omega.{arith}
 use mathlib.Core.Path.{ap, ◌∙◌}
 use mathlib.Core.List.{List}
 use lib.ListN.{get_or}
-use Rattle.aes.proofs.Mixing.{looked_up, entry_sbox}
+use Rattle.aes.proofs.Mixing.{entry_sbox}
 use Rattle.aes.proofs.table.sbox.Goals as goal
 
 pub returns : goal.returns
 returns c =
-    let x : ℕ = c.args.x in (
-      ap (λ (l : List ℕ). get_or l x 0 / 0x100 % 0x100) c.requires.0
-          ∙ ap (λ (w : ℕ). w / 0x100 % 0x100) (looked_up x c.requires.1)
-          ∙ entry_sbox x c.requires.1,
-      omega arith,
-    )
+    ap (λ (l : List ℕ). get_or l 2 0) c.to_be_bytes.ensures
+    ∙ ap (λ (w : ℕ). w / 0x100 % 0x100) c.entry.ensures
+    ∙ entry_sbox c.args.x (omega arith)

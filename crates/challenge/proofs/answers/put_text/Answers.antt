@@ -17,11 +17,11 @@ good c = sym c.is_challenge.ensures ∙ c.if-not-is_challenge.false
 pub returns-then-not-is_challenge : goal.returns-then-not-is_challenge
 returns-then-not-is_challenge c =
     rw (answer_bad _ (sym c.is_challenge.ensures ∙ c.if-not-is_challenge.true))
-    (at_front_stored (63 ∷ []) _ 1 refl (omega (arith, c.requires)))
+    (at_front_stored (63 ∷ []) _ 1 refl (omega arith))
 
 pub put_read-requires : goal.put_read-requires
 put_read-requires c =
-    (short_line c.args.line.now (good (goal.at.put_read-requires c).Else-not-is_challenge), c.requires)
+    short_line c.args.line.now (good (goal.at.put_read-requires c).Else-not-is_challenge)
 
 pub returns : goal.returns
 returns c = rw (answer_good _ (good (goal.at.returns c).Else-not-is_challenge)) c.put_read.ensures

@@ -1,9 +1,12 @@
 -- `challenge::form::gives_word` meets its contract: the second field is one of the two words.
 -- Assumes nothing.
-use mathlib.Core.Path.{sym, ap, ◌∙◌}
-use mathlib.Core.List.{List, [], ◌∷◌}
+use mathlib.Core.Path.{sym, ap₂, ◌∙◌}
+use mathlib.Core.List.{List}
+use lib.Dec.{eqb}
+use lib.Pointwise.{pointwise}
 use Prim.Native.Nat.{ℕ}
-use Rattle.challenge.specs.Form.{same, is_word}
+use Rattle.challenge.specs.Form.{is_word}
+use Rattle.challenge.proofs.Values.{equal}
 use Rattle.challenge.proofs.form.gives_word.Goals as goal
 
 pub returns-then-gives_op : goal.returns-then-gives_op
@@ -14,4 +17,4 @@ pub returns : goal.returns
 unfolding is_word
 returns c =
     rw (sym c.gives_op.ensures ∙ c.if-gives_op.false)
-    (c.same.ensures ∙ ap (λ (field : List ℕ). same field (79 ∷ 80 ∷ 99 ∷ [])) c.field.ensures)
+    (c.eq.ensures ∙ ap₂ (λ (a b : List ℕ). pointwise eqb a b) c.field.ensures c.as_slice.ensures ∙ equal _ _)

@@ -10,6 +10,6 @@ use Rattle.challenge.proofs.form.put_value.Goals as goal
 pub returns : goal.returns
 returns c =
     let given = c.args in
-    rw (sym c.field.ensures)
+    rw (sym c.field.ensures, c.unwrap_or.ensures)
     (value_put _ _ c.octets_of_hex.ensures
     (omega (arith, c.requires, ap length c.field.ensures, length-field_of given.line.now given.k)))

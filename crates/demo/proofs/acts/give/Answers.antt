@@ -1,12 +1,13 @@
 -- `demo::acts::give` meets its contract: the frame kept at the place is the one handed.
 -- Assumes nothing.
-use native.Mathlib.Omega.{arith}
+use Rattle.script.specs.Quoted.{quoted}
+use Rattle.demo.specs.Columns.{column, phone_columns}
 use Rattle.demo.specs.Ends.{frame_kept}
-use Rattle.demo.proofs.Steps.{line_put, gave}
+use Rattle.demo.specs.Acts.{handed_with, giving}
+use Rattle.demo.proofs.Steps.{stepped_as}
 use Rattle.demo.proofs.acts.give.Goals as goal
 
 pub returns : goal.returns
-unfolding frame_kept
+unfolding giving frame_kept phone_columns column
 returns c =
-    gave c.args.stage c.args.k c.frame_at.ensures c.hand-handed.ensures.cell_is
-    (line_put (omega (arith, c.requires.1)) c.add_sign.ensures c.add_counted.ensures c.hand-handed.ensures.columns_are)
+    stepped_as (λ i. handed_with c.args.stage.now (column (quoted "-")) (c.counted.ensures i) (c.octets_kept.ensures i)) c.hand.ensures

@@ -3,33 +3,41 @@
 use Prim.Native.Nat.{◌≤◌}
 use lib.ListN.{length}
 use lib.Seq.{length-take-le}
-use mathlib.Core.Path.{sym}
+use mathlib.Core.Path.{refl, sym}
 use native.Mathlib.Omega.{arith}
 use Rattle.refusals.proofs.Calls.{is_outcome}
 use Rattle.numbering.specs.Numbering.{width}
 use Rattle.receiver.specs.Receiver.{open_call}
-use Rattle.demo.specs.Ends.{frame_room}
+use Rattle.demo.specs.Columns.{number_text}
+use Rattle.demo.specs.Ends.{frame_room, receiver_in}
 use Rattle.demo.proofs.Ends.{opened_fits}
 use Rattle.demo.proofs.Steps.{handed}
-use Rattle.demo.proofs.acts.hand.Goals.{After-open-opened}
+use Rattle.demo.proofs.acts.hand.Goals.{In-Ok}
 use Rattle.demo.proofs.acts.hand.Goals as goal
 
 -- the text is within the room that was lent
-fits : (c : After-open-opened) → c.open-opened.result.size ≤ 46
+within : (c : In-Ok) → c.in-Ok.opened.size ≤ length c.open.new.text
 unfolding frame_room
-fits c = opened_fits c.args.cell.receiver c.args.octets.now c.open-opened.ensures
-
-within : (c : After-open-opened) → c.open-opened.result.size ≤ length c.open-opened.new.output
-within c = omega (arith, fits c, c.open-opened.auto.output)
+within c = omega (arith, opened_fits (receiver_in c.args.stage.now.cell) c.args.octets.now c.in-Ok.ensures.answered, c.open.auto.text)
 
 pub slice_bounds-text-end : goal.slice_bounds-text-end
-slice_bounds-text-end c = within (goal.at.slice_bounds-text-end c).After-open-opened
+slice_bounds-text-end c = within (goal.at.slice_bounds-text-end c).In-Ok
 
-pub slice_bounds-add_cell-end : goal.slice_bounds-add_cell-end
-slice_bounds-add_cell-end c = sym (length-take-le _ _ (within (goal.at.slice_bounds-add_cell-end c).After-open-opened))
+pub slice_bounds-show-end : goal.slice_bounds-show-end
+slice_bounds-show-end c = sym (length-take-le _ _ (within (goal.at.slice_bounds-show-end c).In-Ok))
 
-pub returns : goal.returns
+pub returns-in-Ok : goal.returns-in-Ok
+unfolding frame_room number_text
+returns-in-Ok c =
+    let stage = c.args.stage.now in
+    let octets = c.args.octets.now in
+    handed stage c.args.phone c.args.done octets (is_outcome (open_call width (receiver_in stage.cell) octets frame_room) c.in-Ok.ensures.answered) c.in-Ok.ensures.cell_is
+    c.numbered.ensures c.answered.ensures refl c.show.ensures
+
+pub returns-in-Err : goal.returns-in-Err
 unfolding frame_room
-returns c =
-    let given = c.args in
-    handed given.cell given.octets.now (is_outcome (open_call width given.cell.receiver given.octets.now frame_room) c.open-opened.ensures) c.add_cell-end.ensures
+returns-in-Err c =
+    let stage = c.args.stage.now in
+    let octets = c.args.octets.now in
+    handed stage c.args.phone c.args.done octets (is_outcome (open_call width (receiver_in stage.cell) octets frame_room) c.in-Err.ensures.answered) c.in-Err.ensures.cell_is
+    c.given.ensures c.answered-in-Err.ensures refl c.show-in-Err.ensures

@@ -1,17 +1,18 @@
 -- `demo::acts::remark` meets its contract: the line, and a line feed.
 -- Assumes nothing.
-use mathlib.Core.Path.{refl}
 use native.Mathlib.Omega.{arith}
-use Rattle.lines.specs.Text.{AtFront}
-use Rattle.lines.proofs.Placed.{at_front_put, at_front_octet}
-use Rattle.demo.specs.Acts.{remarking}
-use Rattle.demo.proofs.acts.remark.Goals.{After-put_text-end}
+use lib.ListN.{length, drop}
+use mathlib.Core.List.{List, ◌++◌}
+use mathlib.Core.Path.{refl, ap}
+use Prim.Native.Nat.{ℕ}
+use Rattle.refusals.specs.Call.{front}
+use Rattle.lines.specs.Text.{ended}
+use Rattle.lines.proofs.Placed.{at_front_octet}
 use Rattle.demo.proofs.acts.remark.Goals as goal
 
-put : (c : After-put_text-end) → AtFront c.args.line.now c.args.output.now c.put_text-end.result.count c.put_text-end.new.output
-put c = at_front_put _ _ c.put_text-end.ensures (omega (arith, c.requires.0, c.requires.1)) refl
-
 pub returns : goal.returns
-unfolding remarking
+unfolding ended front
 returns c =
-    record { stage_is = refl; said_is = at_front_octet 10 (put (goal.at.returns c).After-put_text-end) (omega (arith, c.requires.0, c.requires.1)) }
+    let line = c.args.line.now in
+    at_front_octet {text = line} {before = c.args.output.now} 10 (record { written_is = refl; output_is = ap (λ (l : List ℕ). l ++ drop (length line) c.args.output.now) c.copy_from_slice.ensures.after })
+    (omega (arith, c.requires))

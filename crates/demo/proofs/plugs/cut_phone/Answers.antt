@@ -1,14 +1,15 @@
 -- `demo::plugs::cut_phone` meets its contract: the phone is cut, and this is shown.
 -- Assumes nothing.
-use mathlib.Core.Path.{ap}
+use mathlib.Core.Path.{refl}
 use Rattle.script.specs.Quoted.{quoted}
-use Rattle.demo.specs.declared.hosts.Phone.{Phone}
+use Rattle.demo.specs.Columns.{column, phone_columns}
+use Rattle.demo.specs.Ends.{cut_phone}
 use Rattle.demo.specs.Plugs.{with_phone, cut_shown, cutting_phone}
-use Rattle.demo.proofs.Steps.{stepped_as}
+use Rattle.demo.proofs.Steps.{silent}
 use Rattle.demo.proofs.plugs.cut_phone.Goals as goal
 
 pub returns : goal.returns
-unfolding cutting_phone
+unfolding cutting_phone cut_phone cut_shown phone_columns column
 returns c =
-    let stage = c.args.stage in
-    stepped_as (ap (λ (p : Phone). cut_shown (with_phone stage p) (quoted "cut phone")) c.cut-phone.ensures) c.show_cut.ensures
+    let stage = c.args.stage.now in
+    silent {stage' = with_phone stage (cut_phone stage.phone)} {phone' = column (quoted "-")} refl refl c.column.ensures c.show_silent.ensures

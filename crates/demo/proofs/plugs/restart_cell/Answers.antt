@@ -1,14 +1,11 @@
 -- `demo::plugs::restart_cell` meets its contract: what the cell answers is shown.
 -- Assumes nothing.
 use mathlib.Core.Path.{ap}
-use Rattle.script.specs.Quoted.{quoted}
-use Rattle.demo.specs.declared.hosts.CellAnswered.{CellAnswered}
-use Rattle.demo.specs.Plugs.{with_cell, cell_shown, restarting_cell}
-use Rattle.demo.proofs.Steps.{stepped_as}
+use Rattle.demo.specs.Plugs.{with_cell, restarting_cell}
+use Rattle.demo.proofs.Steps.{cell_step}
 use Rattle.demo.proofs.plugs.restart_cell.Goals as goal
 
 pub returns : goal.returns
 unfolding restarting_cell
 returns c =
-    let stage = c.args.stage in
-    stepped_as (ap (λ (a : CellAnswered). cell_shown (with_cell stage a.cell) a.refusal (quoted "restarted")) c.restart_cell-answered.ensures) c.show_cell.ensures
+    cell_step _ (ap (with_cell c.args.stage.now) c.restart-answer.ensures.cell) c.restart-answer.ensures.answered c.show_cell.ensures

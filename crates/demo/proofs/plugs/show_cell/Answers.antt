@@ -1,15 +1,17 @@
 -- `demo::plugs::show_cell` meets its contract: a hyphen, what was done, and the cell's columns.
 -- Assumes nothing.
-use mathlib.Core.Path.{refl}
-use native.Mathlib.Omega.{arith}
+use Prim.Native.Nat.{ℕ}
+use mathlib.Core.List.{List, []}
+use mathlib.Core.Path.{subst}
+use Rattle.lines.specs.Text.{AtFront}
+use Rattle.script.specs.Quoted.{quoted}
+use Rattle.demo.specs.Columns.{column, phone_columns, cell_columns, number_text, text_column}
 use Rattle.demo.specs.Plugs.{cell_shown}
-use Rattle.demo.proofs.Steps.{line_put}
+use Rattle.demo.specs.Rows.{line_of}
 use Rattle.demo.proofs.plugs.show_cell.Goals as goal
 
 pub returns : goal.returns
-unfolding cell_shown
+unfolding cell_shown phone_columns cell_columns number_text text_column column
 returns c =
-    record {
-      stage_is = refl;
-      said_is = line_put (omega (arith, c.requires.1)) c.add_sign.ensures c.add_column.ensures c.add_cell-written.ensures;
-    }
+    subst (λ (l : List ℕ). AtFront l c.args.output.now c.show.result c.show.new.output)
+    (λ i. line_of c.args.stage.now (record { phone = column (quoted "-"); done = c.column.ensures i; number = column (quoted "-"); answer = c.answered.ensures i }) []) c.show.ensures

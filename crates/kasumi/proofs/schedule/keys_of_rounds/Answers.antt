@@ -1,7 +1,5 @@
--- `kasumi::schedule::keys_of_rounds` meets its contract. The invariant of its loop: the words of the first i rounds stand at the front. The measure
--- is what is left of the rounds.
+-- `kasumi::schedule::keys_of_rounds` meets its contract. The invariant of its loop: the words of the first i rounds stand at the front.
 -- Assumes nothing.
-use Rattle.std.proofs.Common.{rules}
 use Prim.Native.Nat.{ℕ, ◌+◌, ◌*◌, ◌≤◌, ◌<◌}
 use mathlib.Core.Path.{◌≡◌, refl, sym, ap, ap₂, ◌∙◌}
 use mathlib.Core.List.{List, ◌++◌}
@@ -37,12 +35,9 @@ one_more key before words i {keys} long below is keys-are =
 
 pub loop-i-init : goal.loop-i-init
 unfolding round_words
-loop-i-init c = (search rules, refl)
+loop-i-init c = refl
 
 pub loop-i-preserved : goal.loop-i-preserved
 loop-i-preserved c =
-    let i : ℕ = c.loop-i.i in (
-      omega arith,
-      c.put_keys.ensures
-          ∙ one_more c.args.key.now (replicate 64 0) c.loop-i.words i refl (omega arith) c.loop-i.invariant.1 c.keys_of_round.ensures,
-    )
+    c.put_keys.ensures
+    ∙ one_more c.args.key.now (replicate 64 0) c.loop-i.words c.loop-i.i refl (omega arith) c.loop-i.invariant c.keys_of_round.ensures

@@ -1,7 +1,6 @@
--- `kasumi::schedule::keys_of_rounds` meets its contract. The invariant of its loop: the words of the first i rounds stand at the front. The measure
--- is what is left of the rounds.
+-- `kasumi::schedule::keys_of_rounds` meets its contract. The invariant of its loop: the words of the first i rounds stand at the front.
 -- Assumes nothing.
-use Prim.Native.Nat.{◌*◌, ◌-◌, ◌≤◌}
+use Prim.Native.Nat.{◌*◌}
 use mathlib.Core.Path.{◌≡◌}
 use mathlib.Core.List.{◌++◌}
 use lib.ListN.{drop}
@@ -9,7 +8,4 @@ use Rattle.kasumi.specs.Lent.{round_words}
 use Rattle.kasumi.proofs.schedule.keys_of_rounds.Given as goal
 
 abbrev pub invariant-loop-i : goal.invariant-loop-i
-invariant-loop-i l = (l.i ≤ 8) × (l.words ≡ round_words l.key l.i ++ drop (8 * l.i) l.initial.words)
-
-abbrev pub decreases-loop-i : goal.decreases-loop-i
-decreases-loop-i l = 8 - l.i
+invariant-loop-i l = l.words ≡ round_words l.key l.i ++ drop (8 * l.i) l.initial.words

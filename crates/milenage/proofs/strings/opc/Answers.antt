@@ -1,10 +1,8 @@
 -- `milenage::strings::opc` meets its contract: the round keys are those of the key, so the encryption is AES under it.
 -- Assumes nothing.
-use mathlib.Core.Path.{ap, ap₂, ◌∙◌}
+use mathlib.Core.Path.{ap, ◌∙◌}
 use mathlib.Core.List.{List}
 use Prim.Native.Nat.{ℕ}
-use lib.ListN.{replicate}
-use Rattle.refusals.proofs.Within.{front_whole}
 use Rattle.octets.specs.Xor.{xored}
 use Rattle.aes.specs.Aes.{cipher, aes}
 use Rattle.milenage.specs.Milenage.{opc_of}
@@ -15,6 +13,4 @@ unfolding aes opc_of
 returns c =
     let op : List ℕ = c.args.op.now in
     c.xor.ensures
-    ∙ ap (xored op)
-    (c.encrypt_block-encrypted.ensures
-    ∙ ap₂ cipher c.round_keys-words.ensures (c.put.ensures ∙ front_whole op (replicate 16 0) c.requires.1))
+    ∙ ap (xored op) (c.encrypt_block-encrypted.ensures ∙ ap (λ (words : List ℕ). cipher words op) c.round_keys-words.ensures)

@@ -1,25 +1,21 @@
--- `milenage::strings::xor` meets its contract: each turn of the loop puts the xor of two octets. The measure is what is left of the 16.
+-- `milenage::strings::xor` meets its contract: each octet is the xor of the two at its place.
 -- Assumes nothing.
-use native.Mathlib.Omega.{arith}
-use mathlib.Core.Path.{refl, sym, ap, ◌∙◌}
-use mathlib.Core.List.{List}
+use Rattle.std.proofs.Common.{rules}
 use Prim.Native.Nat.{ℕ}
+use mathlib.Core.Path.{◌≡◌, refl, sym, ap, ◌∙◌}
+use lib.Bits.{bit_xor}
+use lib.ListN.{get_or}
 use Rattle.octets.specs.Bits.{listed}
 use Rattle.octets.specs.Xor.{xored}
-use Rattle.octets.proofs.Filling.{filled_none, filled_more, filled_all}
-use Rattle.milenage.proofs.strings.xor.Invariants.{octet_at}
+use Rattle.aes.proofs.Made.{made_listed}
 use Rattle.milenage.proofs.strings.xor.Goals as goal
-
-pub loop-i-init : goal.loop-i-init
-loop-i-init c = filled_none _
-
-pub loop-i-preserved : goal.loop-i-preserved
-loop-i-preserved c = filled_more _ c.loop-i.invariant (omega arith) refl
 
 pub returns : goal.returns
 unfolding xored
 returns c =
     let given = c.args in
-    let a : List ℕ = given.a.now in
-    let b : List ℕ = given.b.now in
-    filled_all (octet_at a b) c.loop-i.invariant (omega arith) ∙ ap (listed (octet_at a b)) (sym c.requires.0)
+    let octet_at = λ (i : ℕ). bit_xor (get_or given.a.now i 0) (get_or given.b.now i 0) in
+    made_listed _ (λ p. (p.0.now ≡ given.a.now) × (p.1.now ≡ given.b.now)) octet_at 16
+    (λ p q i y below kept called. ((search rules, search rules), search rules))
+    _ _ (refl, refl) c.from_fn.ensures.items
+    ∙ ap (listed octet_at) (sym c.told-a)

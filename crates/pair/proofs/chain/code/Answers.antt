@@ -1,6 +1,5 @@
--- `pair::chain::code` meets its contract. The loop's invariant: `a` and `b` are A and B after n blocks. The measure is what is left of the blocks.
+-- `pair::chain::code` meets its contract. The loop's invariant: `a` and `b` are A and B after n blocks.
 -- Assumes nothing.
-use Rattle.std.proofs.Common.{rules}
 use Prim.Native.Nat.{ℕ, zero, suc, ◌+◌, ◌^◌, ◌<◌}
 use native.Mathlib.Decide.{dec_lt}
 use native.Mathlib.Numerals.{add-one}
@@ -15,9 +14,9 @@ use Rattle.octets.specs.Xor.{xored}
 use Rattle.octets.proofs.Listed.{get_or-listed}
 use Rattle.octets.proofs.Xored.{length-xored}
 use Rattle.kasumi.specs.Kasumi.{left, kasumi}
-use Rattle.kasumi.specs.Lent.{round_words, ciphered_by}
-use Rattle.kasumi.proofs.Lent.{ciphered_kasumi}
-use Rattle.pair.specs.F9.{zeros_after, padded, block_of, chained, gathered, modifier, code_of, f9_code}
+use Rattle.kasumi.specs.Lent.{ciphered_by}
+use Rattle.kgcore.proofs.Keys.{keys_there, ciphers}
+use Rattle.pair.specs.F9.{padded, block_of, chained, gathered, modifier, code_of, f9_code}
 use Rattle.pair.proofs.Padded.{length-padded}
 use Rattle.pair.proofs.chain.code.Goals.{At-loop-n}
 use Rattle.pair.proofs.chain.code.Goals as goal
@@ -53,62 +52,57 @@ abbrev key : At-loop-n → List ℕ
 key c = c.args.key.now
 
 abbrev string : At-loop-n → List ℕ
-string c = padded c.args.inputs c.args.message.now c.args.bits
-
--- the key is octets
-each : (c : At-loop-n) (i : ℕ) → get_or (key c) i 0 < 256
-each c i = omega (arith, c.type_inv.key i)
+string c = padded c.args.string.inputs c.args.string.message.octets.now c.args.string.message.bits
 
 -- by the table and the round keys of the key, the cipher is KASUMI under the key
 under_key : (c : At-loop-n) (x : ℕ) → x < 2 ^ 64
-    → ciphered_by c.fi_table-table.result c.round_keys-words.result x ≡ kasumi (key c) x
-under_key c x fits =
-    ap₂ (λ (table words : List ℕ). ciphered_by table words x) c.fi_table-table.ensures c.round_keys-words.ensures
-    ∙ ciphered_kasumi (key c) (each c) x fits
+    → ciphered_by c.fi_table-table.result c.unwrap-words.result x ≡ kasumi (key c) x
+under_key c = ciphers _ _ c.round_keys.ensures (omega arith) c.fi_table-table.ensures c.unwrap-words.ensures (λ i. c.fits-key i)
 
 -- and by those of the modified key, KASUMI under that
 under_modified : (c : At-loop-n) (x : ℕ) → x < 2 ^ 64
-    → ciphered_by c.fi_table-table.result c.round_keys-last.result x ≡ kasumi (xored (key c) modifier) x
+    → ciphered_by c.fi_table-table.result c.unwrap-last.result x ≡ kasumi (xored (key c) modifier) x
 under_modified c x fits =
-    ap₂ (λ (table words : List ℕ). ciphered_by table words x) c.fi_table-table.ensures
-    (c.round_keys-last.ensures ∙ ap (λ (k : List ℕ). round_words k 8) c.modified-changed.ensures)
-    ∙ ciphered_kasumi (xored (key c) modifier) (modified_octets (key c) (each c)) x fits
+    ciphers _ _ c.round_keys-2.ensures (omega arith) c.fi_table-table.ensures c.unwrap-last.ensures
+    (subst AreOctets (sym c.modified.ensures) (modified_octets (key c) (λ i. c.fits-key i))) x fits
+    ∙ ap (λ (k : List ℕ). kasumi k x) c.modified.ensures
+
+pub unwrap-words-requires : goal.unwrap-words-requires
+unwrap-words-requires c = keys_there _ _ c.round_keys.ensures (omega arith)
+
+pub unwrap-last-requires : goal.unwrap-last-requires
+unwrap-last-requires c = keys_there _ _ c.round_keys-2.ensures (omega arith)
 
 pub loop-n-init : goal.loop-n-init
 unfolding chained gathered
-loop-n-init c = record { within = search rules; a_is = refl; a_fits = lit< tt; b_is = refl; b_fits = lit< tt }
-
-pub block-requires : goal.block-requires
-unfolding zeros_after
-block-requires c = search rules
+loop-n-init c = record { a_is = refl; b_is = refl }
 
 pub loop-n-preserved : goal.loop-n-preserved
 loop-n-preserved c =
+    let at : At-loop-n = (goal.at.loop-n-preserved c).At-loop-n in
     let n : ℕ = c.loop-n.n in
     let block : ℕ = c.block.result in
     let x : ℕ = bit_xor c.loop-n.a block in
-    let fits : x < 2 ^ 64 = xor_lt 64 c.loop-n.a block c.loop-n.invariant.a_fits (omega arith) in
-    let next : c.cipher_block-a.result ≡ chained (key (goal.at.loop-n-preserved c).At-loop-n) (string (goal.at.loop-n-preserved c).At-loop-n) (n + 1) =
+    let fits : x < 2 ^ 64 = xor_lt 64 c.loop-n.a block (omega arith) (omega arith) in
+    let next : c.cipher_block-a.result ≡ chained (key at) (string at) (n + 1) =
     c.cipher_block-a.ensures
-    ∙ under_key (goal.at.loop-n-preserved c).At-loop-n x fits
-    ∙ ap₂ (λ (a block : ℕ). kasumi (key (goal.at.loop-n-preserved c).At-loop-n) (bit_xor a block)) c.loop-n.invariant.a_is c.block.ensures
-    ∙ sym (chained_next (key (goal.at.loop-n-preserved c).At-loop-n) (string (goal.at.loop-n-preserved c).At-loop-n) n) in
+    ∙ under_key at x fits
+    ∙ ap₂ (λ (a block : ℕ). kasumi (key at) (bit_xor a block)) c.loop-n.invariant.a_is c.block.ensures
+    ∙ sym (chained_next (key at) (string at) n) in
     record {
-      within = search rules;
       a_is = next;
-      a_fits = omega arith;
-      b_is = ap₂ bit_xor c.loop-n.invariant.b_is next ∙ sym (gathered_next (key (goal.at.loop-n-preserved c).At-loop-n) (string (goal.at.loop-n-preserved c).At-loop-n) n);
-      b_fits = xor_lt 64 c.loop-n.b c.cipher_block-a.result c.loop-n.invariant.b_fits (omega arith);
+      b_is = ap₂ bit_xor c.loop-n.invariant.b_is next ∙ sym (gathered_next (key at) (string at) n);
     }
 
 pub returns : goal.returns
 unfolding f9_code code_of
 returns c =
-    let inputs = c.args.inputs in
-    let message : List ℕ = c.args.message.now in
-    let bits : ℕ = c.args.bits in
+    let at : At-loop-n = (goal.at.returns c).At-loop-n in
+    let inputs = c.args.string.inputs in
+    let message : List ℕ = c.args.string.message.octets.now in
+    let bits : ℕ = c.args.string.message.bits in
     ap (left 32)
     (c.cipher_block.ensures
-    ∙ under_modified (goal.at.returns c).At-loop-n c.loop-n.b c.loop-n.invariant.b_fits
-    ∙ ap (kasumi (xored (key (goal.at.returns c).At-loop-n) modifier))
-    (c.loop-n.invariant.b_is ∙ ap (gathered (key (goal.at.returns c).At-loop-n) (string (goal.at.returns c).At-loop-n)) (omega (arith, c.blocks-count.ensures, length-padded inputs message bits))))
+    ∙ under_modified at c.loop-n.b (omega arith)
+    ∙ ap (kasumi (xored (key at) modifier))
+    (c.loop-n.invariant.b_is ∙ ap (gathered (key at) (string at)) (omega (arith, c.blocks-n-end.ensures, length-padded inputs message bits))))

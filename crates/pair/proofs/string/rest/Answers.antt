@@ -5,11 +5,16 @@ use native.Mathlib.Omega.{arith}
 use mathlib.Core.Path.{ap, ◌∙◌}
 use mathlib.Core.List.{List}
 use lib.ListN.{replicate}
+use Rattle.refusals.proofs.Number.{is_ok}
 use Rattle.octets.specs.Bits.{bit_of, size}
 use Rattle.octets.proofs.Cutting.{cut_done}
 use Rattle.octets.proofs.Number.{number_ext}
 use Rattle.octets.proofs.Stored.{bit_of_lt, front_stored, zeros_after_lem}
 use Rattle.pair.proofs.string.rest.Goals as goal
+
+pub unwrap-requires : goal.unwrap-requires
+unfolding size
+unwrap-requires c = is_ok c.cut.result (cut_done c.args.message.now c.args.start c.args.count (replicate 8 0) c.cut.ensures (omega arith)).0
 
 pub returns : goal.returns
 unfolding size

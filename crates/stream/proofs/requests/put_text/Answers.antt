@@ -1,70 +1,80 @@
 -- `stream::requests::put_text` meets its contract: a line not of the form has `?`, a refused request the refusal's number, and any other the hex of its octets.
 -- Assumes nothing.
 use Prim.Native.Nat.{ℕ, ◌≤◌}
-use borrow.Author.Tests.{not-true, not-false}
-use lib.ListN.{take, replicate, length-take}
+use lib.ListN.{length, take, replicate, length-take}
 use lib.Seq.{length-take-le}
-use mathlib.Core.Bool.{true}
 use mathlib.Core.List.{List, [], ◌∷◌}
 use mathlib.Core.Path.{◌≡◌, refl, sym, ap, ◌∙◌}
 use native.Mathlib.Omega.{arith}
-use Rattle.refusals.specs.Call.{Outcome}
+use Rattle.std.specs.Prelude.{Some}
+use Rattle.refusals.specs.Call.{Outcome, Answered}
+use Rattle.refusals.specs.Number.{number_of}
 use Rattle.refusals.proofs.Calls.{is_outcome}
+use Rattle.refusals.proofs.Number.{number_some}
 use Rattle.lines.specs.Text.{hex_text, decimal_text}
+use Rattle.lines.proofs.Callers.{unwrapped, room_ok}
 use Rattle.lines.proofs.Placed.{at_front_stored, at_front_put}
 use Rattle.lines.proofs.InDecimal.{length-decimal_text}
 use Rattle.lines.proofs.Text.{length-hex_text}
 use Rattle.stream.specs.declared.form.Request.{Request}
 use Rattle.keystreams.specs.Gea4.{gea4_call}
+use Rattle.stream.specs.Form.{request_of}
 use Rattle.stream.specs.Answer.{outcome_of}
 use Rattle.stream.proofs.Answers.{read_nothing, read_answer, read_limit, text_refused, text_done}
-use Rattle.stream.proofs.requests.put_text.Goals.{After-gea4-refusal}
+use Rattle.stream.proofs.requests.put_text.Goals.{In-Some}
 use Rattle.stream.proofs.requests.put_text.Goals as goal
 
--- where GEA4 has been called: the line, what it asks, and that it asks something
-abbrev line : After-gea4-refusal → List ℕ
-line c = c.args.line.now
+-- the line asks something
+is_read : (c : In-Some) → request_of c.args.line.now ≡ Some c.in-Some.request
+is_read c = sym c.request_of.ensures ∙ c.in-Some.is
 
-abbrev request : After-gea4-refusal → Request
-request c = c.request_of-request.result
-
-is_request_lem : (c : After-gea4-refusal) → (request c).ok ≡ true
-is_request_lem c = not-false _ c.if-not-request.false
-
-limit : (c : After-gea4-refusal) → (request c).m ≤ 1520
-limit c = read_limit (line c) c.request_of-request.ensures (is_request_lem c)
-
--- what GEA4 answered
-outcome_is : (c : After-gea4-refusal) → record { refusal = c.gea4-refusal.result; numbers = []; lent = c.gea4-refusal.new.output } ≡ outcome_of (request c)
+-- what GEA4 answered is what it comes to
+outcome_is : (request : Request) {refusal : ℕ} {after : List ℕ}
+    → Answered (gea4_call request.key request.input request.direction request.m (replicate 1520 0)) refusal [] after
+    → (refusal ≡ (outcome_of request).refusal) × (after ≡ (outcome_of request).lent)
 unfolding outcome_of
-outcome_is c = is_outcome (gea4_call (request c).key (request c).input (request c).direction (request c).m (replicate 1520 0)) c.gea4-refusal.ensures
+outcome_is request answered =
+    let is = is_outcome (gea4_call request.key request.input request.direction request.m (replicate 1520 0)) answered in
+    (ap (λ (o : Outcome (List ℕ)). o.refusal) is, ap (λ (o : Outcome (List ℕ)). o.lent) is)
 
-refusal_is : (c : After-gea4-refusal) → c.gea4-refusal.result ≡ (outcome_of (request c)).refusal
-refusal_is c = ap (λ (o : Outcome (List ℕ)). o.refusal) (outcome_is c)
+pub returns-in_default : goal.returns-in_default
+returns-in_default c = rw (read_nothing _ (sym c.request_of.ensures ∙ c.in_default.is)) (at_front_stored (63 ∷ []) _ 1 refl (omega arith))
 
-pub returns-then-not-request : goal.returns-then-not-request
-returns-then-not-request c =
-    rw (read_nothing _ c.request_of-request.ensures (not-true _ c.if-not-request.true))
-    (at_front_stored (63 ∷ []) _ 1 refl (omega arith))
+pub unwrap-requires : goal.unwrap-requires
+unwrap-requires c =
+    room_ok (length (decimal_text c.number.result)) (decimal_text c.number.result) _ _ c.decimal_of_number.ensures (omega (arith, length-decimal_text c.number.result))
 
-pub returns-then-refusal-ne0 : goal.returns-then-refusal-ne0
-returns-then-refusal-ne0 c =
-    let refusal : ℕ = c.gea4-refusal.result in
-    at_front_put _ _ c.decimal_of_number.ensures (omega (arith, length-decimal_text refusal))
-    (ap decimal_text (refusal_is (goal.at.returns-then-refusal-ne0 c).After-gea4-refusal)
-    ∙ sym (text_refused (request (goal.at.returns-then-refusal-ne0 c).After-gea4-refusal) (λ none. c.if-refusal-ne0.true (refusal_is (goal.at.returns-then-refusal-ne0 c).After-gea4-refusal ∙ none)))
-    ∙ sym (read_answer (line (goal.at.returns-then-refusal-ne0 c).After-gea4-refusal) c.request_of-request.ensures (is_request_lem (goal.at.returns-then-refusal-ne0 c).After-gea4-refusal)))
+pub returns-in-Err : goal.returns-in-Err
+returns-in-Err c =
+    let refusal : ℕ = c.number.result in
+    let request = c.in-Some.request in
+    let gave : number_of c.in-Err.refusal ≡ (outcome_of request).refusal = (outcome_is request c.in-Err.ensures).0 in
+    at_front_put (decimal_text refusal) _ (unwrapped c.decimal_of_number.ensures c.unwrap.ensures) (omega (arith, length-decimal_text refusal))
+    (ap decimal_text (c.number.ensures ∙ gave)
+    ∙ sym (text_refused request (λ none. number_some c.in-Err.refusal (gave ∙ none)))
+    ∙ sym (read_answer _ (is_read (goal.at.returns-in-Err c).In-Some)))
 
 pub slice_bounds-octets-end : goal.slice_bounds-octets-end
-slice_bounds-octets-end c = omega (arith, c.gea4-refusal.auto, limit (goal.at.slice_bounds-octets-end c).After-gea4-refusal)
+slice_bounds-octets-end c = omega (arith, c.gea4-made.auto, read_limit _ (is_read (goal.at.slice_bounds-octets-end c).In-Some))
 
 pub slice_bounds-hex_of_octets-end : goal.slice_bounds-hex_of_octets-end
-slice_bounds-hex_of_octets-end c = sym (length-take-le _ _ (omega (arith, c.gea4-refusal.auto, limit (goal.at.slice_bounds-hex_of_octets-end c).After-gea4-refusal)))
+slice_bounds-hex_of_octets-end c = sym (length-take-le _ _ (omega (arith, c.gea4-made.auto, read_limit _ (is_read (goal.at.slice_bounds-hex_of_octets-end c).In-Some))))
+
+-- the hex of the octets has room
+hex_room : (c : In-Some) (octets before : List ℕ) → 3041 ≤ length before → length (hex_text (take c.in-Some.request.m octets)) ≤ length before
+hex_room c octets before room =
+    omega (arith, read_limit _ (is_read c), length-hex_text (take c.in-Some.request.m octets), length-take c.in-Some.request.m octets)
+
+pub unwrap-requires-2 : goal.unwrap-requires-2
+unwrap-requires-2 c =
+    room_ok _ (hex_text (take c.in-Some.request.m c.gea4-made.new.output)) _ _ c.hex_of_octets.ensures
+    (hex_room (goal.at.unwrap-requires-2 c).In-Some c.gea4-made.new.output c.args.output.now c.requires)
 
 pub returns : goal.returns
 returns c =
-    at_front_put _ _ c.hex_of_octets.ensures
-    (omega (arith, limit (goal.at.returns c).After-gea4-refusal, length-hex_text (take (request (goal.at.returns c).After-gea4-refusal).m c.gea4-refusal.new.output), length-take (request (goal.at.returns c).After-gea4-refusal).m c.gea4-refusal.new.output))
-    (ap (λ (o : Outcome (List ℕ)). hex_text (take (request (goal.at.returns c).After-gea4-refusal).m o.lent)) (outcome_is (goal.at.returns c).After-gea4-refusal)
-    ∙ sym (text_done (request (goal.at.returns c).After-gea4-refusal) (sym (refusal_is (goal.at.returns c).After-gea4-refusal) ∙ c.if-refusal-ne0.false))
-    ∙ sym (read_answer (line (goal.at.returns c).After-gea4-refusal) c.request_of-request.ensures (is_request_lem (goal.at.returns c).After-gea4-refusal)))
+    let request = c.in-Some.request in
+    let made = outcome_is request c.in_default-made.ensures in
+    at_front_put _ _ (unwrapped c.hex_of_octets.ensures c.unwrap-2.ensures) (hex_room (goal.at.returns c).In-Some c.gea4-made.new.output c.args.output.now c.requires)
+    (ap (λ (octets : List ℕ). hex_text (take request.m octets)) made.1
+    ∙ sym (text_done request (sym made.0))
+    ∙ sym (read_answer _ (is_read (goal.at.returns c).In-Some)))

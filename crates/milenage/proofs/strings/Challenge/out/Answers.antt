@@ -1,0 +1,23 @@
+-- `milenage::strings::Challenge::out` meets its contract: the round keys are those of the key, so the encryptions are AES under it.
+-- Assumes nothing.
+use mathlib.Core.Path.{ap, ap₂, ◌∙◌}
+use mathlib.Core.List.{List}
+use Prim.Native.Nat.{ℕ}
+use Rattle.octets.specs.Xor.{xored}
+use Rattle.aes.specs.Aes.{cipher, aes}
+use Rattle.milenage.specs.Milenage.{constant_octets, turned, temp, out}
+use Rattle.milenage.proofs.strings.Challenge.out.Goals as goal
+
+pub returns : goal.returns
+unfolding aes temp out
+returns c =
+    let given = c.args.self.now in
+    let opc : List ℕ = given.opc.now in
+    let output = c.args.output in
+    let keys = c.round_keys-words.ensures in
+    c.last.ensures
+    ∙ ap₂ (λ (words string : List ℕ). xored (cipher words (xored string (constant_octets output.constant))) opc) keys
+    (c.turned-turned.ensures
+    ∙ ap (turned output.rotation)
+    (c.xor.ensures
+    ∙ ap (λ (string : List ℕ). xored string opc) (c.temp.ensures ∙ ap (λ (words : List ℕ). cipher words (xored given.rand.now opc)) keys)))

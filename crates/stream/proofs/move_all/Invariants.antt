@@ -1,7 +1,0 @@
--- `stream::move_all` is safe and ends. The loop's invariant: the output keeps its room.
--- Assumes nothing.
-use Rattle.std.proofs.Common.{◌≤◌, length}
-use Rattle.stream.proofs.move_all.Given as goal
-
-abbrev pub invariant-loop : goal.invariant-loop
-invariant-loop l = 3041 ≤ length l.output
