@@ -6,11 +6,21 @@ mod answers;
 mod form;
 mod texts;
 
+ghost use Rattle.std.specs.Prelude.{◌≤◌, length};
+ghost use Rattle.challenge.specs.Answer.{largest_answer};
+
 use answers::Challenge;
 use std::io;
 
+// Answers every line of the input. What is lent has room for the longest answer, so that no line goes unanswered for want of it.
+fn answer_all(rt: HostRuntime, output: &mut [u8]) -> io::Result<()>
+    requires { largest_answer ≤ length output.old }
+{
+    lines::answer_input(&rt, &mut rt.stdin(), Challenge, output)?;
+    Ok(())
+}
+
 fn main(rt: HostRuntime) -> io::Result<()> {
     let mut output = [0u8; 192];
-    lines::answer_input(&rt, &mut rt.stdin(), Challenge, &mut output)?;
-    Ok(())
+    answer_all(rt, &mut output)
 }
