@@ -44,6 +44,16 @@ struct Hearer<P> {
 }
 
 impl<P: Program> Hearer<P> {
+    // The start: at the program, and nothing heard yet.
+    fn new(program: P) -> Hearer<P>
+        ensures { stands P.state result ≡ record { state = P.state program; heard = Hearing·silence } }
+    {
+        Hearer {
+            program,
+            heard: silence(),
+        }
+    }
+
     // Has the line heard answered, and begins a new one.
     fn answer_heard(&mut self, output: &mut [u8]) -> usize
         requires { P.rules.room ≤ length output.old }
@@ -117,8 +127,7 @@ pub fn answer_input<P: Program + Drop>(
 ) -> io::Result<P>
     ensures { IfOk result (λ last. Reached P.rules (P.state program) (P.state last)) }
 {
-    let heard = silence();
-    let mut hearer = Hearer { program, heard };
+    let mut hearer = Hearer::new(program);
     let mut piece = [0u8; 65536];
     for _ in 0..u64::MAX {
         let size = input.read(&mut piece)?;

@@ -28,7 +28,7 @@ module _ {S : Type 0} (rules : Rules S) (first : S) where
 
 pub loop-init : goal.loop-init
 unfolding heard_after
-loop-init g c = ([], λ i. record { state = g.P.Program.state c.args.program; heard = c.silence-heard.ensures i })
+loop-init g c = ([], c.new-hearer.ensures)
 
 pub loop-preserved : goal.loop-preserved
 loop-preserved g c =
