@@ -11,6 +11,10 @@ pub unwrap-requires : goal.unwrap-requires
 unfolding header
 unwrap-requires c = room_ok 21 header _ _ c.put_text.ensures (omega (arith, c.requires))
 
-pub returns : goal.returns
+pub returns-clause-header : goal.returns-clause-header
 unfolding header
-returns c = at_front_put header _ (unwrapped c.put_text.ensures c.unwrap.ensures) (omega (arith, c.requires)) refl
+returns-clause-header c = at_front_put header _ (unwrapped c.put_text.ensures c.unwrap.ensures) (omega (arith, c.requires)) refl
+
+pub returns-clause-answered : goal.returns-clause-answered
+unfolding header
+returns-clause-answered c = unwrapped c.put_text.ensures c.unwrap.ensures
