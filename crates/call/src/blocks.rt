@@ -1,13 +1,14 @@
 // The calls of AES. The words of an expanded key are octets here, four a word, the highest first.
 use crate::fields::{Failure, Fields};
-use crate::tell::{Told, number_of};
+use crate::handed::{handed_out, number_of};
+use crate::tell::Told;
 
 // expand_key KEY
 pub(crate) fn expand_key(rt: HostRuntime, fields: &mut Fields<'_>) -> Result<(), Failure> {
     let key = fields.octets()?;
     fields.end()?;
     let expanded = aes::expand_key(key);
-    let words = expanded.unwrap_or([0; 44]).map(u32::to_be_bytes);
+    let words = handed_out(expanded).map(u32::to_be_bytes);
     println!(rt; "{} {}", number_of(&expanded), Told(words.as_flattened()))?;
     Ok(())
 }

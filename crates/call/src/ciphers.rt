@@ -1,7 +1,8 @@
 // The calls of the ciphers and the keystreams, whose first field is a key.
 use crate::fields::{Failure, Fields};
+use crate::handed::{handed_out, number_of};
 use crate::lending::{lend, lend_two};
-use crate::tell::{Told, number_of};
+use crate::tell::Told;
 use kgcore::Inputs;
 use refusals::Refusal;
 
@@ -11,7 +12,7 @@ pub(crate) fn kasumi(rt: HostRuntime, fields: &mut Fields<'_>) -> Result<(), Fai
     let block = fields.number()?;
     fields.end()?;
     let ciphered = kasumi::kasumi(key, block);
-    println!(rt; "{} {:016X}", number_of(&ciphered), ciphered.unwrap_or(0))?;
+    println!(rt; "{} {:016X}", number_of(&ciphered), handed_out(ciphered))?;
     Ok(())
 }
 
@@ -20,7 +21,7 @@ pub(crate) fn prepare_key(rt: HostRuntime, fields: &mut Fields<'_>) -> Result<()
     let key = fields.octets()?;
     fields.end()?;
     let prepared = keystreams::prepare_key(key);
-    let yielded = prepared.unwrap_or([0; 16]);
+    let yielded = handed_out(prepared);
     println!(rt; "{} {}", number_of(&prepared), Told(yielded.as_slice()))?;
     Ok(())
 }

@@ -1,8 +1,9 @@
-// The calls of the link's two ends. Where there is no number and no length, docs/CALL-LINES.md has 0 there.
+// The calls of the link's two ends.
 use crate::fields::{Failure, Fields};
+use crate::handed::{number_of, opened_numbers, refused_number, sealed_numbers};
 use crate::lending::{last_room, with_output};
 use crate::states::State;
-use crate::tell::{Told, number_of};
+use crate::tell::{Told, put_octets};
 use receiver::Receiver;
 use sender::Sender;
 
@@ -22,11 +23,10 @@ pub(crate) fn seal(rt: HostRuntime, fields: &mut Fields<'_>) -> Result<(), Failu
     let payload = fields.octets()?;
     let room = last_room(fields)?;
     with_output(room, |output| {
-        match sender::seal(&mut sender, payload, output) {
-            Ok(sealed) => print!(rt; "0 {} {}", sealed.number, sealed.size)?,
-            Err(refusal) => print!(rt; "{} 0 0", refusal.number())?,
-        }
-        println!(rt; " {} {}", Told(sender), Told(&*output))?;
+        let answer = sender::seal(&mut sender, payload, output);
+        let (number, size) = sealed_numbers(answer);
+        print!(rt; "{} {number} {size} ", number_of(&answer))?;
+        put_octets(rt, Told(sender), output, "\n")?;
         Ok(())
     })
 }
@@ -37,14 +37,10 @@ pub(crate) fn open(rt: HostRuntime, fields: &mut Fields<'_>) -> Result<(), Failu
     let frame = fields.octets()?;
     let room = last_room(fields)?;
     with_output(room, |output| {
-        match receiver::open(&mut receiver, frame, output) {
-            Ok(opened) => print!(rt; "0 {} {}", opened.number, opened.size)?,
-            Err(refused) => {
-                let candidate = refused.candidate.unwrap_or(0);
-                print!(rt; "{} {candidate} 0", refused.refusal.number())?;
-            }
-        }
-        println!(rt; " {} {}", Told(receiver), Told(&*output))?;
+        let answer = receiver::open(&mut receiver, frame, output);
+        let (number, size) = opened_numbers(answer);
+        print!(rt; "{} {number} {size} ", refused_number(&answer))?;
+        put_octets(rt, Told(receiver), output, "\n")?;
         Ok(())
     })
 }

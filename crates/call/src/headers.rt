@@ -1,7 +1,8 @@
 // The calls of the bench frame: the look at it, and its header.
 use crate::fields::{Failure, Fields, Room};
+use crate::handed::number_of;
 use crate::lending::lend;
-use crate::tell::{Told, number_of};
+use crate::tell::Told;
 use frames::Header;
 
 // look FRAME

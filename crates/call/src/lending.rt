@@ -1,7 +1,8 @@
 // Calls that are lent an output, whose size is the last field of the line. Every octet of it is AA beforehand, so that one sees which ones the call left
 // alone.
 use crate::fields::{Failure, Fields, MOST_ROOM, NoCall, Room};
-use crate::tell::{Told, number_of};
+use crate::handed::number_of;
+use crate::tell::put_octets;
 use refusals::Refusal;
 
 // The last field of a line, which is the size of an output.
@@ -33,7 +34,7 @@ pub(crate) fn lend<F: FnOnce(&mut [u8]) -> Result<(), Refusal>>(
     let room = last_room(fields)?;
     with_output(room, |output| {
         let answer = call(output);
-        println!(rt; "{} {}", number_of(&answer), Told(&*output))?;
+        put_octets(rt, number_of(&answer), output, "\n")?;
         Ok(())
     })
 }
@@ -51,12 +52,8 @@ pub(crate) fn lend_two<F: FnOnce(&mut [u8], &mut [u8]) -> Result<(), Refusal>>(
     with_output(first_room, |first| {
         with_output(room, |second| {
             let answer = call(first, second);
-            println!(rt;
-                "{} {} {}",
-                number_of(&answer),
-                Told(&*first),
-                Told(&*second)
-            )?;
+            put_octets(rt, number_of(&answer), first, "")?;
+            put_octets(rt, "", second, "\n")?;
             Ok(())
         })
     })

@@ -9,6 +9,7 @@ mod ciphers;
 mod ends;
 mod fields;
 mod forms;
+mod handed;
 mod headers;
 mod lending;
 mod links;

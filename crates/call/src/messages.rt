@@ -1,7 +1,7 @@
 // The calls of the third generation pair, which take a key and a message.
 use crate::fields::{Failure, Fields, NoCall};
+use crate::handed::{handed_out, number_of};
 use crate::lending::lend;
-use crate::tell::number_of;
 use pair::{F8Inputs, F9Inputs};
 
 // f8 KEY COUNT BEARER DIRECTION MESSAGE BITS ROOM
@@ -29,7 +29,7 @@ pub(crate) fn f9(rt: HostRuntime, fields: &mut Fields<'_>) -> Result<(), Failure
     let bits = fields.number()?;
     fields.end()?;
     let made = pair::f9(inputs, key, message, bits);
-    println!(rt; "{} {:08X}", number_of(&made), made.unwrap_or(0))?;
+    println!(rt; "{} {:08X}", number_of(&made), handed_out(made))?;
     Ok(())
 }
 
@@ -42,11 +42,7 @@ pub(crate) fn check_code(rt: HostRuntime, fields: &mut Fields<'_>) -> Result<(),
     let code = fields.number()?;
     fields.end()?;
     let checked = pair::check_code(inputs, key, message, bits, code);
-    println!(rt;
-        "{} {}",
-        number_of(&checked),
-        checked.unwrap_or(false) as u8
-    )?;
+    println!(rt; "{} {}", number_of(&checked), handed_out(checked) as u8)?;
     Ok(())
 }
 

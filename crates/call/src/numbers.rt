@@ -1,5 +1,6 @@
-// The calls of the numbering. Where a refusal names no number, docs/CALL-LINES.md has 0 there.
+// The calls of the numbering.
 use crate::fields::{Failure, Fields};
+use crate::handed::{numbered, refused_number};
 use crate::states::State;
 use crate::tell::Told;
 use numbering::Numbering;
@@ -16,13 +17,12 @@ pub(crate) fn number(rt: HostRuntime, fields: &mut Fields<'_>) -> Result<(), Fai
     let mut numbering = Numbering::read(fields)?;
     let sent = fields.number()?;
     fields.end()?;
-    match numbering::number(&mut numbering, sent) {
-        Ok(number) => print!(rt; "0 {number}")?,
-        Err(refused) => {
-            let candidate = refused.candidate.unwrap_or(0);
-            print!(rt; "{} {candidate}", refused.refusal.number())?;
-        }
-    }
-    println!(rt; " {}", Told(numbering))?;
+    let answer = numbering::number(&mut numbering, sent);
+    println!(rt;
+        "{} {} {}",
+        refused_number(&answer),
+        numbered(answer),
+        Told(numbering)
+    )?;
     Ok(())
 }

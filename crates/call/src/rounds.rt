@@ -1,6 +1,7 @@
 // The calls of what the rounds of KASUMI are lent: the table for FI and the round keys. Their words are octets here, two a word, the higher first.
 use crate::fields::{Failure, Fields};
-use crate::tell::{Told, number_of};
+use crate::handed::{handed_out, number_of};
+use crate::tell::Told;
 
 // fi_table
 pub(crate) fn fi_table(rt: HostRuntime, fields: &mut Fields<'_>) -> Result<(), Failure> {
@@ -15,7 +16,7 @@ pub(crate) fn round_keys(rt: HostRuntime, fields: &mut Fields<'_>) -> Result<(),
     let key = fields.octets()?;
     fields.end()?;
     let keys = kasumi::round_keys(key);
-    let words = keys.unwrap_or([0; 64]).map(u16::to_be_bytes);
+    let words = handed_out(keys).map(u16::to_be_bytes);
     println!(rt; "{} {}", number_of(&keys), Told(words.as_flattened()))?;
     Ok(())
 }

@@ -1,6 +1,7 @@
 // The states, as fields of a line, and the calls that open one, restore one, or ask whether one can arise.
 use crate::fields::{Failure, Fields, NoCall};
-use crate::tell::{Told, number_of};
+use crate::handed::{Handed, handed_out, number_of};
+use crate::tell::Told;
 use link::Link;
 use numbering::Numbering;
 use receiver::Receiver;
@@ -8,22 +9,8 @@ use refusals::Refusal;
 use sender::Sender;
 use std::fmt::Display;
 
-// What document 01 hands out where no link was opened.
-const NO_LINK: Link = Link {
-    key: [0; 16],
-    iov: 0,
-    sapi: 0,
-    direction: 2,
-};
-
 pub(crate) trait State: Copy + Drop {
     fn read(fields: &mut Fields<'_>) -> Result<Self, NoCall>;
-}
-
-// A state that is opened.
-pub(crate) trait Opened: State {
-    // What is handed out where no such state was opened.
-    const NONE: Self;
 }
 
 // KEY IOV SAPI DIRECTION
@@ -69,39 +56,16 @@ impl State for Receiver {
     }
 }
 
-impl Opened for Link {
-    const NONE: Link = NO_LINK;
-}
-
-impl Opened for Sender {
-    const NONE: Sender = Sender {
-        link: NO_LINK,
-        next: 0,
-        reserved: 0,
-    };
-}
-
-impl Opened for Receiver {
-    const NONE: Receiver = Receiver {
-        link: NO_LINK,
-        numbering: Numbering { next: 0, marks: 0 },
-    };
-}
-
-fn tell_opened<T: Opened>(rt: HostRuntime, opened: Result<T, Refusal>) -> Result<(), Failure>
+fn tell_opened<T: Handed + Drop>(rt: HostRuntime, opened: Result<T, Refusal>) -> Result<(), Failure>
 where
     Told<T>: Display,
 {
-    println!(rt;
-        "{} {}",
-        number_of(&opened),
-        Told(opened.unwrap_or(T::NONE))
-    )?;
+    println!(rt; "{} {}", number_of(&opened), Told(handed_out(opened)))?;
     Ok(())
 }
 
 // open_link KEY IOV SAPI DIRECTION, and open_sender and open_receiver
-pub(crate) fn open<T: Opened, F: FnOnce(&[u8], u32, u8, u8) -> Result<T, Refusal>>(
+pub(crate) fn open<T: Handed + Drop, F: FnOnce(&[u8], u32, u8, u8) -> Result<T, Refusal>>(
     rt: HostRuntime,
     fields: &mut Fields<'_>,
     call: F,
@@ -119,7 +83,7 @@ where
 }
 
 // restore_sender FORM, and restore_receiver
-pub(crate) fn restore<T: Opened, F: FnOnce(&[u8]) -> Result<T, Refusal>>(
+pub(crate) fn restore<T: Handed + Drop, F: FnOnce(&[u8]) -> Result<T, Refusal>>(
     rt: HostRuntime,
     fields: &mut Fields<'_>,
     call: F,

@@ -1,8 +1,9 @@
 // What the program writes.
+ghost use Rattle.std.specs.Prelude.{◌≤◌, length};
+
 use link::Link;
 use numbering::Numbering;
 use receiver::Receiver;
-use refusals::Refusal;
 use sender::Sender;
 use std::{fmt, io};
 
@@ -11,19 +12,12 @@ pub(crate) fn bad(rt: HostRuntime) -> io::Result<()> {
     println!(rt; "?")
 }
 
-// The number of the refusal of an answer. Where nothing was refused, docs/CALL-LINES.md has 0 there.
-pub(crate) fn number_of<T>(answer: &Result<T, Refusal>) -> u8 {
-    match answer {
-        Ok(_) => 0,
-        Err(refusal) => refusal.number(),
-    }
-}
-
 // A value as it stands in an answer.
 #[derive(Clone, Copy, Drop)]
 pub(crate) struct Told<T>(pub T);
 
-// Octets are hex, or - where there are none. They are put part by part: one by one as {:02X} they take about twice as long.
+// Octets are hex, or - where there are none. They are put part by part: one by one as {:02X} they take about twice as long. What is displayed is copied
+// octet by octet, so many octets go by `put_octets`.
 impl fmt::Display for Told<&[u8]> {
     fn fmt<W: fmt::Write>(&self, f: &mut fmt::Formatter<W>) -> fmt::Result {
         if self.0.is_empty() {
@@ -75,4 +69,43 @@ impl fmt::Display for Told<Receiver> {
         let Receiver { link, numbering } = self.0;
         write!(f, "{} {}", Told(link), Told(numbering))
     }
+}
+
+// The most octets that are displayed with the rest of their line.
+const FEW: usize = 64;
+
+// Writes what is told, a space, octets and what ends them. Many octets are written by themselves: displayed, those of an output of the largest size take
+// seven times as long.
+pub(crate) fn put_octets<T: fmt::Display + Drop>(
+    rt: HostRuntime,
+    told: T,
+    octets: &[u8],
+    end: &str,
+) -> io::Result<()> {
+    if octets.len() <= FEW {
+        return print!(rt; "{told} {}{end}", Told(octets));
+    }
+    print!(rt; "{told} ")?;
+    if octets.len() <= 2048 {
+        put_hex(rt, octets, &mut [0; 4096])?;
+    } else {
+        put_hex(rt, octets, &mut [0; 32768])?;
+    }
+    print!(rt; "{end}")
+}
+
+// Writes octets as hex, as many at a time as there is room for.
+fn put_hex(rt: HostRuntime, octets: &[u8], digits: &mut [u8]) -> io::Result<()>
+    requires { 2 ≤ length digits.old }
+{
+    for octets in octets.chunks(digits.len() / 2) {
+        let count = lines::hex_of_octets(octets, digits).map_err(|_| too_long())?;
+        rt.write_all(digits.get(..count).ok_or(too_long())?)?;
+    }
+    Ok(())
+}
+
+// More digits than there is room for, which no piece has.
+fn too_long() -> io::Error {
+    io::Error::other("octets have too many digits")
 }
