@@ -6,7 +6,7 @@ ghost use Rattle.std.specs.Prelude.{◌≤◌, IfOk, length};
 use receiver::{Opened, Receiver};
 use refusals::{Refusal, Refused};
 use sender::{Sealed, Sender};
-use std::io;
+use std::{fmt, io};
 
 // What both ends are opened with. An example: a key that is to keep a secret is not written into a program.
 const KEY: [u8; 16] = [0, 1, 2, 3, 4, 5, 6, 7, 8, 9, 10, 11, 12, 13, 14, 15];
@@ -21,10 +21,20 @@ const DIRECTION: u8 = 0;
 type Form = [u8; stored::SENDER_SIZE];
 
 // Why a text did not go out, or the program ends early: a call was refused, or nothing could be written.
-#[derive(Debug, Drop)]
+#[derive(Drop)]
 enum Failure {
     Refused(Refusal),
     Host(io::Error),
+}
+
+// What the program says when it ends early: the refusal or the error, as it says it itself.
+impl fmt::Debug for Failure {
+    fn fmt<W: fmt::Write>(&self, f: &mut fmt::Formatter<W>) -> fmt::Result {
+        match self {
+            Failure::Refused(refusal) => write!(f, "{refusal:?}"),
+            Failure::Host(error) => write!(f, "{error:?}"),
+        }
+    }
 }
 
 impl From<Refusal> for Failure {
