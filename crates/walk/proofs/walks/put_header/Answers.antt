@@ -9,7 +9,7 @@ use Rattle.walk.proofs.walks.put_header.Goals as goal
 
 pub unwrap-requires : goal.unwrap-requires
 unfolding header
-unwrap-requires c = room_ok 21 header _ _ c.put_text.ensures (omega (arith, c.requires))
+unwrap-requires c = room_ok 21 _ _ _ c.put_text.ensures (omega (arith, c.requires))
 
 pub returns-clause-header : goal.returns-clause-header
 unfolding header
