@@ -13,6 +13,6 @@ fn main(rt: HostRuntime) -> io::Result<()> {
     let mut output = [0u8; columns::ROOM];
     let size = play::put_heading(&mut output);
     rt.write_all(&output[..size])?;
-    lines::answer_input(&rt, &mut rt.stdin(), play::new_stage(), &mut output)?;
+    lines::answer_input(&rt, &mut rt.stdin(), play::new_stage(), &mut output).unwrap()?;
     Ok(())
 }

@@ -2,7 +2,8 @@
 ghost use Rattle.std.specs.Prelude.{◌≡◌, ◌≤◌, ℕ, IfOk, length};
 ghost use Rattle.std.specs.Result.{result_unwrap_or};
 ghost use Rattle.refusals.specs.Number.{refusal_of};
-ghost use Rattle.lines.specs.Text.{AtFront};
+ghost use Rattle.refusals.specs.Refusal.{first};
+ghost use Rattle.lines.specs.Text.{AtFront, room_order};
 ghost use Rattle.lines.specs.Hearing.{silence as Hearing·silence, heard_line, Rules, stands, heard_after, HearCall, FinishCall, Finished, Reached};
 
 use crate::{Heard, LONGEST, kept, silence, too_long};
@@ -117,9 +118,25 @@ fn no_room() -> io::Error {
     io::Error::other("an output has too little room")
 }
 
-// Answers every line of an input, and writes the answers; hands the program back as the input has left it. The output is where each answer is put. A
-// proved loop has to end, and nothing says that the input does, so the loop has a number of turns that no run uses up.
+// Answers every line of an input, and writes the answers; hands the program back as the input has left it, or says what could not be read or written. The
+// output is where each answer is put: where it has less than the program's room, the call is refused, and reads and writes nothing.
 pub fn answer_input<P: Program + Drop>(
+    rt: &impl Print,
+    input: &mut impl Read,
+    program: P,
+    output: &mut [u8],
+) -> Result<io::Result<P>, Refusal>
+    ensures room { refusal_of result ≡ first (room_order P.rules.room output.old) }
+    ensures reached { IfOk result (λ answered. IfOk answered (λ last. Reached P.rules (P.state program) (P.state last))) }
+{
+    if output.len() < P::ROOM {
+        return Err(Refusal::Room);
+    }
+    Ok(answer_all(rt, input, program, output))
+}
+
+// A proved loop has to end, and nothing says that the input does, so the loop has a number of turns that no run uses up.
+fn answer_all<P: Program + Drop>(
     rt: &impl Print,
     input: &mut impl Read,
     program: P,

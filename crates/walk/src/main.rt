@@ -10,6 +10,6 @@ fn main(rt: HostRuntime) -> io::Result<()> {
     let mut output = [0u8; 44];
     let size = walks::put_header(&mut output);
     rt.write_all(&output[..size])?;
-    lines::answer_input(&rt, &mut rt.stdin(), walks::start(), &mut output)?;
+    lines::answer_input(&rt, &mut rt.stdin(), walks::start(), &mut output).unwrap()?;
     Ok(())
 }

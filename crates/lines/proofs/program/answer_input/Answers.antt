@@ -1,50 +1,12 @@
--- `lines::program::answer_input` meets its contract: each piece is heard where the pieces before it have led, and the end leads where a line feed would,
--- or nowhere. What `finish` puts is within the output.
+-- `lines::program::answer_input` meets its contract: it is refused where the output has less than the room of the rules, and only there.
 -- Assumes nothing.
-use lib.ListN.{take}
-use lib.Seq.{length-take-le}
-use mathlib.Core.Path.{◌≡◌, sym, ap, ◌∙◌}
-use mathlib.Core.List.{List, [], ◌∷◌, ◌++◌}
-use mathlib.Core.Logic.{inl, inr}
-use Prim.Native.Nat.{ℕ}
-use Rattle.lines.specs.Hearing.{Rules, Standing, silence, hearing, heard_after, Finished, Reached}
-use Rattle.lines.proofs.Callers.{put_within}
-use Rattle.lines.proofs.Hearing.{heard_pieces}
+use native.Mathlib.Omega.{arith}
+use mathlib.Core.Path.{sym}
+use Rattle.lines.proofs.Text.{room_enough, room_short}
 use Rattle.lines.proofs.program.answer_input.Goals as goal
 
-module _ {S : Type 0} (rules : Rules S) (first : S) where
-  -- where a program stands that has heard octets
-  abbrev heard : List ℕ → Standing S
-  heard octets = heard_after rules (record { state = first; heard = silence }) octets
+pub returns-then-output-ROOM-clause-room : goal.returns-then-output-ROOM-clause-room
+returns-then-output-ROOM-clause-room g c = sym (room_short _ _ (omega (arith, c.ROOM.ensures, g.met.P.Program.room)))
 
-  finished : (at then : Standing S) (octets : List ℕ) → at ≡ heard octets → Finished rules at then → Reached rules first then.state
-  unfolding heard_after
-  finished at then octets is (inl same) = (octets, ap (λ (s : Standing S). s.state) (sym is ∙ sym same))
-  finished at then octets is (inr fed) = (
-    octets ++ 10 ∷ [],
-    ap (λ (s : Standing S). s.state)
-        (heard_pieces rules (record { state = first; heard = silence }) octets (10 ∷ []) ∙ ap (λ (s : Standing S). hearing rules s 10) (sym is) ∙ sym fed),
-  )
-
-pub loop-init : goal.loop-init
-unfolding heard_after
-loop-init g c = ([], c.new-hearer.ensures)
-
-pub loop-preserved : goal.loop-preserved
-loop-preserved g c =
-    let piece : List ℕ = take c.in_ok-size.size c.read.new.buf in (
-      c.loop.invariant.0 ++ piece,
-      c.in_ok-hear_piece.ensures
-          ∙ ap (λ (s : Standing g.P.Program.State). heard_after g.P.Program.rules s piece) c.loop.invariant.1
-          ∙ sym (heard_pieces g.P.Program.rules _ c.loop.invariant.0 piece),
-    )
-
-pub slice_bounds-write_all-end : goal.slice_bounds-write_all-end
-slice_bounds-write_all-end g c = put_within _ _ _ c.in-Ok.ensures.said.said_is
-
-pub slice_bounds-write_all-end-2 : goal.slice_bounds-write_all-end-2
-slice_bounds-write_all-end-2 g c = sym (length-take-le c.in-Ok.written c.finish.new.output (put_within _ _ _ c.in-Ok.ensures.said.said_is))
-
-pub returns : goal.returns
-returns g c =
-    finished g.P.Program.rules (g.P.Program.state c.args.program) _ _ c.loop.invariant.0 c.loop.invariant.1 c.in-Ok.ensures.then
+pub returns-clause-room : goal.returns-clause-room
+returns-clause-room g c = sym (room_enough _ _ (omega (arith, c.ROOM.ensures, g.met.P.Program.room)))

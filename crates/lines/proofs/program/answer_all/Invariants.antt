@@ -1,10 +1,10 @@
--- `lines::program::answer_input` meets its contract: the program stands where hearing the pieces read so far has led it.
+-- `lines::program::answer_all` meets its contract: the program stands where hearing the pieces read so far has led it.
 -- Assumes nothing.
 use mathlib.Core.Path.{◌≡◌}
 use mathlib.Core.List.{List}
 use Prim.Native.Nat.{ℕ}
 use Rattle.lines.specs.Hearing.{stands, silence, heard_after}
-use Rattle.lines.proofs.program.answer_input.Given as goal
+use Rattle.lines.proofs.program.answer_all.Given as goal
 
 abbrev pub invariant-loop : goal.invariant-loop
 invariant-loop g l =
