@@ -101,21 +101,15 @@ impl<P: Program> Hearer<P> {
 
     // Hears a piece of the input, octet by octet, and writes each answer.
     fn hear_piece(&mut self, rt: &impl Print, piece: &[u8], output: &mut [u8]) -> io::Result<()>
+        requires { P.rules.room ≤ length output.old }
         ensures { IfOk result (λ _. stands P.state self.new ≡ heard_after P.rules (stands P.state self.old) piece.now) }
     {
         for octet in piece {
-            let Ok(written) = self.hear(*octet, output) else {
-                return Err(no_room());
-            };
+            let written = self.hear(*octet, output).unwrap();
             rt.write_all(&output[..written])?;
         }
         Ok(())
     }
-}
-
-// An output without the room of the program.
-fn no_room() -> io::Error {
-    io::Error::other("an output has too little room")
 }
 
 // Answers every line of an input, and writes the answers; hands the program back as the input has left it, or says what could not be read or written. The
@@ -142,6 +136,7 @@ fn answer_all<P: Program + Drop>(
     program: P,
     output: &mut [u8],
 ) -> io::Result<P>
+    requires { P.rules.room ≤ length output.old }
     ensures { IfOk result (λ last. Reached P.rules (P.state program) (P.state last)) }
 {
     let mut hearer = Hearer::new(program);
@@ -153,9 +148,7 @@ fn answer_all<P: Program + Drop>(
         }
         hearer.hear_piece(rt, &piece[..size], output)?;
     }
-    let Ok(written) = hearer.finish(output) else {
-        return Err(no_room());
-    };
+    let written = hearer.finish(output).unwrap();
     rt.write_all(&output[..written])?;
     Ok(hearer.program)
 }

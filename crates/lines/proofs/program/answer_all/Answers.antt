@@ -1,6 +1,7 @@
 -- `lines::program::answer_all` meets its contract: each piece is heard where the pieces before it have led, and the end leads where a line feed would,
--- or nowhere. What `finish` puts is within the output.
+-- or nowhere. The output keeps its room, and what `finish` puts is within it.
 -- Assumes nothing.
+use native.Mathlib.Omega.{arith}
 use lib.ListN.{take}
 use lib.Seq.{length-take-le}
 use mathlib.Core.Path.{◌≡◌, sym, ap, ◌∙◌}
@@ -8,7 +9,7 @@ use mathlib.Core.List.{List, [], ◌∷◌, ◌++◌}
 use mathlib.Core.Logic.{inl, inr}
 use Prim.Native.Nat.{ℕ}
 use Rattle.lines.specs.Hearing.{Rules, Standing, silence, hearing, heard_after, Finished, Reached}
-use Rattle.lines.proofs.Callers.{put_within}
+use Rattle.lines.proofs.Callers.{put_within, room_ok}
 use Rattle.lines.proofs.Hearing.{heard_pieces}
 use Rattle.lines.proofs.program.answer_all.Goals as goal
 
@@ -39,12 +40,18 @@ loop-preserved g c =
           ∙ sym (heard_pieces g.P.Program.rules _ c.loop.invariant.0 piece),
     )
 
+pub hear_piece-requires : goal.hear_piece-requires
+hear_piece-requires g c = omega arith
+
+pub unwrap-written-requires : goal.unwrap-written-requires
+unwrap-written-requires g c = room_ok g.P.Program.rules.room _ _ _ c.finish.ensures.said.said_is (omega arith)
+
 pub slice_bounds-write_all-end : goal.slice_bounds-write_all-end
-slice_bounds-write_all-end g c = put_within _ _ _ c.in-Ok.ensures.said.said_is
+slice_bounds-write_all-end g c = put_within _ _ _ (rw c.unwrap-written.ensures at c.finish.ensures.said.said_is)
 
 pub slice_bounds-write_all-end-2 : goal.slice_bounds-write_all-end-2
-slice_bounds-write_all-end-2 g c = sym (length-take-le c.in-Ok.written c.finish.new.output (put_within _ _ _ c.in-Ok.ensures.said.said_is))
+slice_bounds-write_all-end-2 g c = sym (length-take-le c.unwrap-written.result c.finish.new.output (put_within _ _ _ (rw c.unwrap-written.ensures at c.finish.ensures.said.said_is)))
 
 pub returns : goal.returns
 returns g c =
-    finished g.P.Program.rules (g.P.Program.state c.args.program) _ _ c.loop.invariant.0 c.loop.invariant.1 c.in-Ok.ensures.then
+    finished g.P.Program.rules (g.P.Program.state c.args.program) _ _ c.loop.invariant.0 c.loop.invariant.1 c.finish.ensures.then
