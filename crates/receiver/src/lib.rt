@@ -69,7 +69,11 @@ pub fn open(receiver: &mut Receiver, frame: &[u8], output: &mut [u8]) -> Result<
     }
     let header = frames::header_of(frame);
     let mut numbering = receiver.numbering;
-    let number = numbering::number(&mut numbering, header.sent)?;
+    // A match, and not `?`: an edit that must fail changes the refusal that is handed on.
+    let number = match numbering::number(&mut numbering, header.sent) {
+        Ok(number) => number,
+        Err(refused) => return Err(refused),
+    };
     let payload = frames::look(frame);
     let size = payload.len();
     if output.len() < size {

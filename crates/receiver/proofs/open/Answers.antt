@@ -82,37 +82,34 @@ returns-then-not-is_of_link-clause-answer c =
     (open_8 width _ _ _ (sym c.can_arise.ensures ∙ c.if-not-can_arise.false) (sym c.in_ok-look_refusal.ensures.refusal_is) (sym c.is_of_link.ensures ∙ c.if-not-is_of_link.true))
     (eqb-false 8 0 refl))
 
-pub returns-in_err-number-clause-answer : goal.returns-in_err-number-clause-answer
-returns-in_err-number-clause-answer c =
+pub returns-in-Err-clause-answer : goal.returns-in-Err-clause-answer
+returns-in-Err-clause-answer c =
     let given = c.args in
-    let here = (goal.at.returns-in_err-number-clause-answer c).After-header_of-header in
-    let told = err_from_is_err_and c.from_residual-in_err-number.result c.from_residual-in_err-number.ensures.1 in
-    let some = number_some c.in_err-number.field-0.0.refusal in
-    let step = rw c.header_of-header.ensures at c.in_err-number.ensures.answer in
+    let here = (goal.at.returns-in-Err-clause-answer c).After-header_of-header in
+    let some = number_some c.in-Err.refused.refusal in
+    let step = rw c.header_of-header.ensures at c.in-Err.ensures.answer in
     let decides = step_decides width _ _ (good here) (sent_most here) step in
-    rw (told.1, told.2, step_refused width _ _ (good here) (sent_most here) step some)
+    rw (step_refused width _ _ (good here) (sent_most here) step some)
     (refused (open_call width given.receiver.now given.frame.now given.output.now) _
     (open_candidate width _ _ _ (good here) (nothing here) (ours here) (λ none. some (decides ∙ none)) ∙ sym decides)
     some)
 
 -- a step's refusals give the number as a frame's do
-pub returns-in_err-number-clause-candidate : goal.returns-in_err-number-clause-candidate
-returns-in_err-number-clause-candidate c =
-    let here = (goal.at.returns-in_err-number-clause-candidate c).After-header_of-header in
-    let told = err_from_is_err_and c.from_residual-in_err-number.result c.from_residual-in_err-number.ensures.1 in
-    let step = rw c.header_of-header.ensures at c.in_err-number.ensures.answer in
+pub returns-in-Err-clause-candidate : goal.returns-in-Err-clause-candidate
+returns-in-Err-clause-candidate c =
+    let here = (goal.at.returns-in-Err-clause-candidate c).After-header_of-header in
+    let step = rw c.header_of-header.ensures at c.in-Err.ensures.answer in
     let decides = step_decides width _ _ (good here) (sent_most here) step in
-    rw (told.1, told.2)
-    (c.in_err-number.ensures.candidate
+    c.in-Err.ensures.candidate
     ∙ ap (λ (r : ℕ). eqb r 11) decides
     ∙ step_gives width (receiver here).numbering (header_of (octets here)).sent
-    ∙ sym (ap gives_number decides))
+    ∙ sym (ap gives_number decides)
 
 pub returns-then-output-size-clause-answer : goal.returns-then-output-size-clause-answer
 returns-then-output-size-clause-answer c =
     let given = c.args in
     let here = (goal.at.returns-then-output-size-clause-answer c).After-header_of-header in
-    let step = rw c.header_of-header.ensures at c.in_ok-number.ensures.answer in
+    let step = rw c.header_of-header.ensures at c.in-Ok.ensures.answer in
     let short = rw (c.look-payload.ensures ∙ looked_passed _ (nothing here)) at c.if-output-size.true in
     rw (step_done width _ _ (good here) (sent_most here) step refl).0
     (refused (open_call width given.receiver.now given.frame.now given.output.now) 4
@@ -136,7 +133,7 @@ returns-clause-answer c =
     let octets : List ℕ = c.args.frame.now in
     let before : List ℕ = c.args.output.now in
     let here = (goal.at.returns-clause-answer c).After-header_of-header in
-    let step = rw c.header_of-header.ensures at c.in_ok-number.ensures.answer in
+    let step = rw c.header_of-header.ensures at c.in-Ok.ensures.answer in
     let numbered = step_decides width receiver octets (good here) (sent_most here) step in
     let done = step_done width receiver octets (good here) (sent_most here) step refl in
     let payload_is = c.look-payload.ensures ∙ looked_passed octets (nothing here) in
