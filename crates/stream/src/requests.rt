@@ -1,17 +1,31 @@
 // What is answered to a line of `stream`. What a line asks is the module `form`, and how lines are heard the crate `lines`.
-ghost use Rattle.std.specs.Prelude.{◌≤◌, length, refl};
-ghost use Rattle.lines.specs.Text.{AtFront};
+ghost use Rattle.std.specs.Prelude.{◌≤◌, cond, eqb, length, refl};
+ghost use Rattle.refusals.specs.Number.{refusal_of};
+ghost use Rattle.lines.specs.Text.{AtFront, decimal_text, hex_text};
 ghost use Rattle.stream.specs.Answer.{answer_text, largest_answer};
 ghost use Rattle.stream.specs.Stream.{stream_rules};
 
 use crate::form;
 use lines::Program;
+use refusals::Refusal;
 
 // What ends a line.
 const LINE_FEED: u8 = b'\n';
 
 // The answer to a line not of the form.
 const BAD: u8 = b'?';
+
+// Puts what GEA4 made of a request: its octets as capital hex, or the refusal's number.
+fn put_made(made: Result<(), Refusal>, octets: &[u8], output: &mut [u8]) -> usize
+    requires room { largest_answer ≤ length output.old }
+    requires limit { length octets.now ≤ 1520 }
+    ensures { AtFront (cond (eqb (refusal_of made) 0) (hex_text octets.now) (decimal_text (refusal_of made))) output.old result output.new }
+{
+    match made {
+        Ok(()) => lines::hex_of_octets(octets, output).unwrap(),
+        Err(refusal) => lines::decimal_of_number(refusal.number() as u32, output).unwrap(),
+    }
+}
 
 // Puts the text that answers a line, without its line end.
 fn put_text(line: &[u8], output: &mut [u8]) -> usize
@@ -30,10 +44,7 @@ fn put_text(line: &[u8], output: &mut [u8]) -> usize
         request.m,
         &mut octets,
     );
-    if let Err(refusal) = made {
-        return lines::decimal_of_number(refusal.number() as u32, output).unwrap();
-    }
-    lines::hex_of_octets(&octets[..request.m as usize], output).unwrap()
+    put_made(made, &octets[..request.m as usize], output)
 }
 
 // The program: nothing goes from line to line.
