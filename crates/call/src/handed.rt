@@ -1,4 +1,4 @@
-// What a call hands out, as its entry in the promises has it. Where it was refused, that is 0, no, no link, a new end of none, or a key of zeros.
+// What a call hands out. Where it was refused, that is 0, no, no link, a new end of none, or a key of zeros.
 ghost use Rattle.std.specs.Prelude.{◌≡◌, false, replicate};
 ghost use Rattle.std.specs.Result.{result_unwrap_or};
 ghost use Rattle.refusals.specs.Number.{refusal_of, refused_of, number_in};

@@ -137,8 +137,7 @@ pub(crate) fn start() -> Walk
 // Puts the header line at the front of the output, and answers how many octets it has.
 pub(crate) fn put_header(output: &mut [u8]) -> usize
     requires { Walk·room ≤ length output.old }
-    ensures header { AtFront Walk·header output.old result output.new }
-    ensures answered { Answered (put_text_call Walk·header output.old) 0 (result ∷ []) output.new }
+    ensures { AtFront Walk·header output.old result output.new }
 {
     lines::put_text(b"N number answer next\n", output).unwrap()
 }

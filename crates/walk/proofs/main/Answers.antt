@@ -9,10 +9,10 @@ use Rattle.walk.specs.Walk.{header}
 use Rattle.walk.proofs.main.Goals as goal
 
 pub slice_bounds-output-end : goal.slice_bounds-output-end
-slice_bounds-output-end c = (front_within header _ c.put_header-size.ensures.header.written_is c.put_header-size.ensures.header.output_is).0
+slice_bounds-output-end c = (front_within header _ c.put_header-size.ensures.written_is c.put_header-size.ensures.output_is).0
 
 pub slice_bounds-write_all-end : goal.slice_bounds-write_all-end
-slice_bounds-write_all-end c = (front_within header _ c.put_header-size.ensures.header.written_is c.put_header-size.ensures.header.output_is).1
+slice_bounds-write_all-end c = (front_within header _ c.put_header-size.ensures.written_is c.put_header-size.ensures.output_is).1
 
 -- and what is lent has room for the longest answer
 pub unwrap-requires : goal.unwrap-requires

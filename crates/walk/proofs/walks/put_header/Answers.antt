@@ -11,10 +11,6 @@ pub unwrap-requires : goal.unwrap-requires
 unfolding header
 unwrap-requires c = room_ok 21 _ _ _ c.put_text.ensures (omega (arith, c.requires))
 
-pub returns-clause-header : goal.returns-clause-header
+pub returns : goal.returns
 unfolding header
-returns-clause-header c = at_front_put header _ (unwrapped c.put_text.ensures c.unwrap.ensures) (omega (arith, c.requires)) refl
-
-pub returns-clause-answered : goal.returns-clause-answered
-unfolding header
-returns-clause-answered c = unwrapped c.put_text.ensures c.unwrap.ensures
+returns c = at_front_put header _ (unwrapped c.put_text.ensures c.unwrap.ensures) (omega (arith, c.requires)) refl
