@@ -22,9 +22,9 @@ returns c =
     let given = c.args in
     let row = given.row in
     let reserved_is : c.numbered-reserved.result ≡ column (decimal_text (reserved_on given.stage.now)) =
-    c.numbered-reserved.ensures ∙ ap (λ (n : ℕ). column (decimal_text n)) c.reserved.ensures in
+    c.numbered-reserved.ensures ∙ ap (λ (n : ℕ). column (decimal_text n)) (omega arith) in
     let next_is : c.numbered-next.result ≡ column (decimal_text (expected_on given.stage.now)) =
-    c.numbered-next.ensures ∙ ap (λ (n : ℕ). column (decimal_text n)) c.next.ensures in
+    c.numbered-next.ensures ∙ ap (λ (n : ℕ). column (decimal_text n)) (omega arith) in
     subst (λ (l : List ℕ). AtFront l given.output.now c.add_text.result c.add_text.new.output)
     (ap₂ (λ (b f : List ℕ). (row.phone ++ b) ++ (row.done ++ (row.number ++ (row.answer ++ (f ++ text_column given.text.now))))) reserved_is next_is)
     (line_put row.phone c.numbered-reserved.result row.done row.number row.answer c.numbered-next.result
